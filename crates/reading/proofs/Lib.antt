@@ -1,0 +1,11 @@
+pub mod Texts
+pub mod Readers
+pub mod Local
+pub mod Loops
+pub mod Sequencing
+pub mod Bounds
+pub mod Openings
+pub mod Steadiness
+pub mod Repeats
+pub mod Places
+pub mod Walks

@@ -1,0 +1,4 @@
+pub mod Booleans
+pub mod Lists
+pub mod Splices
+pub mod Tables
