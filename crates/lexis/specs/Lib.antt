@@ -1,0 +1,6 @@
+pub mod Limits
+pub mod Bytes
+pub mod Pieces
+pub mod Words
+pub mod Answers
+pub mod Internal

@@ -1,0 +1,407 @@
+// The small pieces of a field body: classes of bytes, space, comments, tokens, quoted strings, keywords and digit runs.
+//
+// A reader is handed a slice and a place, any place, also past the end. It answers the place after the piece that starts there, and
+// the place itself where there is none. Nothing is refused here: what it means that a piece is missing is the caller's to say.
+ghost use mathlib.Core.Path.{_≡_};
+ghost use mathlib.Core.Bool.{_&&_};
+ghost use Prim.Native.Nat.{_+_, _-_};
+ghost use lib.Dec.{eqb, ltb};
+ghost use lib.ListN.{drop, getD, length};
+ghost use Rattle.reading.specs.Readers.{run, many};
+ghost use Rattle.lexis.specs.Limits.{byteLimit, depthLimit, freshAt};
+ghost use Rattle.lexis.specs.Bytes.{inClass};
+ghost use Rattle.lexis.specs.Pieces.{escapes, pair, fold, item, comment, content, space, bareSpace, token, quoted, keyword, digits, leading, isOne};
+ghost use Rattle.lexis.specs.Answers.{valueAt, digitsAt};
+ghost use Rattle.lexis.specs.Internal.{rowsOf, wordOf};
+
+pub mod text;
+
+// A place of a slice, and how many comments may still open there, one inside the other.
+pub struct Cursor {
+    pub at: usize,
+    pub depth: usize,
+}
+
+impl Cursor {
+    // The most bytes that a block or a field body may have.
+    pub const BYTES: usize = 65536;
+    // The most comments that may stand one inside the other.
+    pub const DEPTH: usize = 16;
+
+    // A cursor at a place outside of any comment.
+    pub fn fresh(at: usize) -> Cursor
+        ensures { λ r. ⌜ r ≡ freshAt at ⌝ }
+    {
+        Cursor {
+            at,
+            depth: Cursor::DEPTH,
+        }
+    }
+}
+
+// Whether a block or a field body has more bytes than the limit: answer 1.
+pub fn too_long(s: &[u8]) -> bool
+    ensures { λ r. ⌜ r ≡ ltb byteLimit (length (now (s .entry))) ⌝ }
+{
+    Cursor::BYTES < s.len()
+}
+
+pub enum Class {
+    Blank,
+    Opening,
+    Zero,
+    Digit,
+    Keyword,
+    Token,
+    Quoted,
+    Comment,
+    Escaped,
+}
+
+// A class: a binary digit for each byte, the lowest first, 64 bytes to a word.
+struct Rows(u64, u64, u64, u64);
+
+fn rows_of(c: Class) -> Rows
+    ensures { λ r. ⌜ r ≡ rowsOf c ⌝ }
+{
+    match c {
+        Class::Blank => Rows(0x100000200, 0x0, 0x0, 0x0),
+        Class::Opening => Rows(0x10100002200, 0x0, 0x0, 0x0),
+        Class::Zero => Rows(0x1000000000000, 0x0, 0x0, 0x0),
+        Class::Digit => Rows(0x3ff000000000000, 0x0, 0x0, 0x0),
+        Class::Keyword => Rows(0x3ff200000000000, 0x7fffffe07fffffe, 0x0, 0x0),
+        Class::Token => Rows(0x3ff6cfa00000000, 0x7fffffffc7fffffe, 0x0, 0x0),
+        Class::Quoted => Rows(
+            0xfffffffb00000200,
+            0x7fffffffefffffff,
+            0xffffffffffffffff,
+            0xffffffffffffffff,
+        ),
+        Class::Comment => Rows(
+            0xfffffcff00000200,
+            0x7fffffffefffffff,
+            0xffffffffffffffff,
+            0xffffffffffffffff,
+        ),
+        Class::Escaped => Rows(0xffffffff00000200, 0x7fffffffffffffff, 0x0, 0x0),
+    }
+}
+
+// The word that has the byte.
+fn word(r: Rows, b: u8) -> u64
+    ensures { λ w. ⌜ w ≡ wordOf r b ⌝ }
+{
+    if b < 64 {
+        return r.0;
+    }
+    if b < 128 {
+        return r.1;
+    }
+    if b < 192 {
+        return r.2;
+    }
+    r.3
+}
+
+// Whether a byte is of a class.
+pub fn in_class(c: Class, b: u8) -> bool
+    ensures { λ r. ⌜ r ≡ inClass c b ⌝ }
+{
+    (word(rows_of(c), b) >> (b % 64)) % 2 == 1
+}
+
+fn class_at(s: &[u8], at: usize, k: usize, c: Class) -> bool
+    ensures { λ r. ⌜ r ≡ inClass c (getD (drop at (now (s .entry))) k 0) ⌝ }
+{
+    in_class(c, reading::byte(s, at, k))
+}
+
+// The end of the run of bytes of a class.
+pub fn run_end(s: &[u8], at: usize, c: Class) -> usize
+    ensures { λ r. ⌜ r ≡ at + run (inClass c) (drop at (now (s .entry))) ⌝ }
+{
+    let mut i = at;
+    while i < s.len() {
+        if in_class(c, s[i]) {
+            i += 1;
+        } else {
+            return i;
+        }
+    }
+    i
+}
+
+// A backslash stands in quoted strings and comments only.
+fn escapes(c: Class) -> bool
+    ensures { λ r. ⌜ r ≡ escapes c ⌝ }
+{
+    match c {
+        Class::Blank => false,
+        Class::Opening => false,
+        Class::Zero => false,
+        Class::Digit => false,
+        Class::Keyword => false,
+        Class::Token => false,
+        Class::Quoted => true,
+        Class::Comment => true,
+        Class::Escaped => false,
+    }
+}
+
+// A backslash and the byte that it escapes, in a class that has them.
+fn pair_at(s: &[u8], at: usize, c: Class) -> bool
+    ensures { λ r. ⌜ r ≡ (escapes c && pair (drop at (now (s .entry)))) ⌝ }
+{
+    if escapes(c) {
+        if reading::is_at(s, at, 0, b'\\') {
+            return class_at(s, at, 1, Class::Escaped);
+        }
+        return false;
+    }
+    false
+}
+
+// A CRLF and the space or tab that follows it.
+fn fold_at(s: &[u8], at: usize) -> bool
+    ensures { λ r. ⌜ r ≡ fold (drop at (now (s .entry))) ⌝ }
+{
+    if reading::is_at(s, at, 0, b'\r') {
+        if reading::is_at(s, at, 1, b'\n') {
+            return class_at(s, at, 2, Class::Blank);
+        }
+        return false;
+    }
+    false
+}
+
+// How many bytes the item at a place has: 0 where there is none.
+fn item_at(s: &[u8], at: usize, c: Class) -> usize
+    ensures { λ r. ⌜ r ≡ item c (drop at (now (s .entry))) ⌝ }
+{
+    if class_at(s, at, 0, c) {
+        return 1;
+    }
+    if pair_at(s, at, c) {
+        return 2;
+    }
+    if fold_at(s, at) {
+        return 3;
+    }
+    0
+}
+
+// The end of the items of a class, one after the other.
+fn items_end(s: &[u8], at: usize, c: Class) -> usize
+    ensures { λ r. ⌜ r ≡ at + many (item c) 0 (drop at (now (s .entry))) ⌝ }
+{
+    let mut i = at;
+    loop {
+        let n = item_at(s, i, c);
+        if n == 0 {
+            return i;
+        }
+        i += n;
+    }
+}
+
+// The end of space without comments.
+pub fn bare_space_end(s: &[u8], at: usize) -> usize
+    ensures { λ r. ⌜ r ≡ at + bareSpace (drop at (now (s .entry))) ⌝ }
+{
+    items_end(s, at, Class::Blank)
+}
+
+// The comment at a cursor. It and what it holds call each other: the depth that is left falls, so that at most 2 * DEPTH + 1 of these
+// calls are open at once, whatever the input.
+fn comment_from(s: &[u8], c: Cursor) -> usize
+    ensures { λ r. ⌜ r ≡ c .at + comment (c .depth) (drop (c .at) (now (s .entry))) ⌝ }
+{
+    let at = c.at;
+    let depth = c.depth;
+    if depth == 0 {
+        return at;
+    }
+    if reading::is_at(s, at, 0, b'(') {
+        let e = content_from(
+            s,
+            Cursor {
+                at: at + 1,
+                depth: depth - 1,
+            },
+        );
+        if reading::is_at(s, e, 0, b')') {
+            return e + 1;
+        }
+    }
+    at
+}
+
+// What a comment holds, at a cursor behind its "(". The bytes of one comment are a loop: each turn passes a run of plain bytes, and then
+// a comment inside or another item.
+fn content_from(s: &[u8], c: Cursor) -> usize
+    ensures { λ r. ⌜ r ≡ c .at + content (c .depth) Class.Comment (drop (c .at) (now (s .entry))) ⌝ }
+{
+    let depth = c.depth;
+    let mut i = c.at;
+    loop {
+        let e = run_end(s, i, Class::Comment);
+        if reading::is_at(s, e, 0, b'(') {
+            let f = comment_from(s, Cursor { at: e, depth });
+            if f == e {
+                return e;
+            }
+            i = f;
+        } else {
+            let n = item_at(s, e, Class::Comment);
+            if n == 0 {
+                return e;
+            }
+            i = e + n;
+        }
+    }
+}
+
+// The end of a comment.
+pub fn comment_end(s: &[u8], at: usize) -> usize
+    ensures { λ r. ⌜ r ≡ at + comment depthLimit (drop at (now (s .entry))) ⌝ }
+{
+    comment_from(s, Cursor::fresh(at))
+}
+
+// The end of a space that starts with a byte with which one can start: each turn passes a run of spaces and tabs, and then a comment or
+// a fold.
+fn space_from(s: &[u8], at: usize) -> usize
+    ensures { λ r. ⌜ r ≡ at + space (drop at (now (s .entry))) ⌝ }
+{
+    let mut i = at;
+    loop {
+        let e = run_end(s, i, Class::Blank);
+        if reading::is_at(s, e, 0, b'(') {
+            let f = comment_end(s, e);
+            if f == e {
+                return e;
+            }
+            i = f;
+        } else {
+            let n = item_at(s, e, Class::Blank);
+            if n == 0 {
+                return e;
+            }
+            i = e + n;
+        }
+    }
+}
+
+// The end of space. Most often there is none: the first byte tells.
+pub fn space_end(s: &[u8], at: usize) -> usize
+    ensures { λ r. ⌜ r ≡ at + space (drop at (now (s .entry))) ⌝ }
+{
+    if class_at(s, at, 0, Class::Opening) {
+        return space_from(s, at);
+    }
+    at
+}
+
+// The end of a token.
+pub fn token_end(s: &[u8], at: usize) -> usize
+    ensures { λ r. ⌜ r ≡ at + token (drop at (now (s .entry))) ⌝ }
+{
+    run_end(s, at, Class::Token)
+}
+
+// The end of a quoted string.
+pub fn quoted_end(s: &[u8], at: usize) -> usize
+    ensures { λ r. ⌜ r ≡ at + quoted (drop at (now (s .entry))) ⌝ }
+{
+    if reading::is_at(s, at, 0, b'"') {
+        let e = items_end(s, at + 1, Class::Quoted);
+        if reading::is_at(s, e, 0, b'"') {
+            return e + 1;
+        }
+    }
+    at
+}
+
+// A token or a quoted string, with the place after it.
+pub enum Value {
+    Token { start: usize, end: usize },
+    Quoted { start: usize, end: usize },
+    Nothing,
+}
+
+// The value at a place.
+pub fn value_at(s: &[u8], at: usize) -> Value
+    ensures { λ r. ⌜ r ≡ valueAt (now (s .entry)) at ⌝ }
+{
+    if reading::is_at(s, at, 0, b'"') {
+        let e = quoted_end(s, at);
+        if e == at {
+            return Value::Nothing;
+        }
+        return Value::Quoted { start: at, end: e };
+    }
+    let e = token_end(s, at);
+    if e == at {
+        return Value::Nothing;
+    }
+    Value::Token { start: at, end: e }
+}
+
+// The end of a keyword.
+pub fn keyword_end(s: &[u8], at: usize) -> usize
+    ensures { λ r. ⌜ r ≡ at + keyword (drop at (now (s .entry))) ⌝ }
+{
+    let e = run_end(s, at, Class::Keyword);
+    if e == at {
+        return at;
+    }
+    if reading::is_at(s, e - 1, 0, b'-') {
+        return at;
+    }
+    e
+}
+
+// A digit run: its first digit that counts, the place after it, and whether its number is 1. There is none where `end` is the place
+// asked for.
+pub struct Digits {
+    pub start: usize,
+    pub end: usize,
+    pub one: bool,
+}
+
+// The first digit that counts of the digit run from `at` up to `end`.
+fn counted_from(s: &[u8], at: usize, end: usize) -> usize
+    requires { ⌜ end ≡ at + digits (drop at (now s)) ⌝ }
+    ensures { λ r. ⌜ r ≡ at + leading (drop at (now (s .entry))) ⌝ }
+{
+    let z = run_end(s, at, Class::Zero);
+    if z != end {
+        return z;
+    }
+    if end == at {
+        return at;
+    }
+    end - 1
+}
+
+// Whether there is one digit from `start` up to `end`, and it is 1.
+fn is_one(s: &[u8], start: usize, end: usize) -> bool
+    ensures { λ r. ⌜ r ≡ (eqb (end - start) 1 && eqb (getD (drop start (now (s .entry))) 0 0) 49) ⌝ }
+{
+    if start < end {
+        if end - start == 1 {
+            return reading::is_at(s, start, 0, b'1');
+        }
+    }
+    false
+}
+
+// The digit run at a place.
+pub fn digits_at(s: &[u8], at: usize) -> Digits
+    ensures { λ r. ⌜ r ≡ digitsAt (now (s .entry)) at ⌝ }
+{
+    let end = run_end(s, at, Class::Digit);
+    let start = counted_from(s, at, end);
+    let one = is_one(s, start, end);
+    Digits { start, end, one }
+}
