@@ -8,6 +8,7 @@ use mathlib.Core.List.{List, [], _∷_, _++_, map}
 use lib.ListN.{take}
 use Rattle.reading.specs.Texts.{bytes, within, oneOf, same}
 use Rattle.reading.specs.Readers.{Reader, run, many, choose, between, passing, lasts}
+use Rattle.reading.proofs.Cases.{Case, case, Says, copies}
 use Rattle.lexis.specs.Bytes.{inClass, letter, lower, alike}
 use Rattle.lexis.specs.Pieces.{pair, fold, item, comment, space, bareSpace, token, quoted, value, unhyphened, keyword, digits, leading, decimal, isOne}
 use Rattle.lexis.specs.Words.{quotedText, valueText, keywordText, counted}
@@ -17,22 +18,6 @@ unfoldable pub opened : Unit {0}
 unfolding inClass letter lower alike within oneOf same run many choose between passing lasts pair fold item comment unhyphened leading
     decimal quotedText valueText counted
 opened = tt
-
--- a text, and what is said of it
-pub record Case (A : Type 0) : Type 0 where
-  pub of : List ℕ
-  pub gives : A
-
-abbrev pub case : {A : Type 0} → List ℕ → A → Case A
-case t a = record { of = t; gives = a }
-
--- what f says of each text is what is stated
-abbrev pub Says : {A : Type 0} → (List ℕ → A) → List (Case A) → Type 0
-Says {A} f cases = map (λ (c : Case A). f (c .of)) cases ≡ map (λ (c : Case A). c .gives) cases
-
-abbrev copies : ℕ → ℕ → List ℕ
-copies zero x = []
-copies (suc n) x = x ∷ copies n x
 
 -- n comments, one inside the other
 abbrev nested : ℕ → List ℕ

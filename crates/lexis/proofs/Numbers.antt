@@ -7,17 +7,19 @@ use mathlib.Core.Path.{_≡_, refl, sym, ap, _∙_}
 use mathlib.Core.Bool.{Bool, true, false, cond, _&&_}
 use mathlib.Core.List.{List, [], _∷_}
 use lib.Dec.{eqb, leb}
-use lib.ListN.{length, getD, drop}
-use lib.Seq.{getD-drop}
+use lib.ListN.{length, getD, take, drop}
+use lib.Seq.{getD-drop, take-take}
 use borrow.Author.Tests.{eq-eqb, ne-eqb, eqb-true, eqb-false, leb-true}
 use Rattle.sequences.proofs.Booleans.{both, and-left}
+use Rattle.sequences.proofs.Lists.{drop-take}
 use Rattle.reading.specs.Texts.{within}
 use Rattle.reading.specs.Readers.{run}
-use Rattle.reading.proofs.Readers.{run-more}
+use Rattle.reading.proofs.Readers.{run-more, run-take}
 use Rattle.lexis.specs.declared.Class.the-variants.{Digit, Zero}
 use Rattle.lexis.specs.declared.Digits.{Digits}
 use Rattle.lexis.specs.Bytes.{inClass}
 use Rattle.lexis.specs.Pieces.{digits, zeros, leading, decimal, isOne}
+use Rattle.lexis.specs.Words.{counted}
 use Rattle.lexis.specs.Answers.{digitsAt}
 
 digit-low : (x : ℕ) → inClass Digit x ≡ true → 48 ≤ x
@@ -173,6 +175,16 @@ one-is (x ∷ xs) = go (inClass Digit x) (inClass Zero x) refl refl (one-is xs)
     go false u e z ih = no-digit x xs e
     go true true e z ih = zero-first z ih (digits xs) refl
     go true false e z ih = digit-first x xs e z
+
+-- the digits that count of a run are those of its own bytes
+pub counted-text : (xs : List ℕ) (n : ℕ) → digits xs ≡ suc n → counted (take (suc n) xs) ≡ take (digits xs - leading xs) (drop (leading xs) xs)
+unfolding counted
+counted-text xs n e =
+    let p = take (suc n) xs in
+    let d : digits p ≡ suc n = run-take (inClass Digit) (suc n) xs (omega arith) ∙ e in
+    let z : zeros p ≡ zeros xs = run-take (inClass Zero) (suc n) xs (omega (arith, zeros-le xs)) in
+    let k : leading p ≡ leading xs = leading-is p (zeros xs) (suc n) z d ∙ sym (leading-is xs (zeros xs) (suc n) refl e) in
+    rw (d, k, e, drop-take (leading xs) (suc n) xs) (take-take (suc n - leading xs) (suc n - leading xs) (drop (leading xs) xs) (omega arith))
 
 -- ==== as the code finds them
 

@@ -102,12 +102,12 @@ module _ (xs : List ℕ) (n : ℕ) (e : quoted xs ≡ suc n) where
       rw (drop-take 1 (suc n) xs, j, ← append-nil p, t, c)
 
 -- the text of a token is the token
-token-text : (xs : List ℕ) (n : ℕ) → eqb (getD xs 0 0) 34 ≡ false → valueText (take (suc n) xs) ≡ take (suc n) xs
+pub token-text : (xs : List ℕ) (n : ℕ) → eqb (getD xs 0 0) 34 ≡ false → valueText (take (suc n) xs) ≡ take (suc n) xs
 unfolding valueText
 token-text [] n q = refl
 token-text (x ∷ xs) n q = rw (valueText, q)
 
-quote-text : (xs : List ℕ) (n : ℕ) → eqb (getD xs 0 0) 34 ≡ true → valueText (take (suc n) xs) ≡ quotedText (take (suc n) xs)
+pub quote-text : (xs : List ℕ) (n : ℕ) → eqb (getD xs 0 0) 34 ≡ true → valueText (take (suc n) xs) ≡ quotedText (take (suc n) xs)
 unfolding valueText
 quote-text [] n q = absurd (no-true q)
 quote-text (x ∷ xs) n q = rw (valueText, q)

@@ -6,7 +6,7 @@ use mathlib.Core.List.{List, map}
 use lib.Dec.{leb, eqb}
 use Rattle.reading.specs.Texts.{bytes, within, oneOf, same}
 use Rattle.lexis.specs.declared.Class.{Class}
-use Rattle.lexis.specs.declared.Class.the-variants.{Blank, Opening, Zero, Digit, Keyword, Token, Quoted, Comment, Escaped}
+use Rattle.lexis.specs.declared.Class.the-variants.{Blank, Opening, Zero, Digit, Keyword, Token, Quoted, Comment, Escaped, Name, Visible, Delimiter}
 
 -- a letter
 unfoldable pub letter : ℕ → Bool
@@ -30,6 +30,12 @@ inClass Quoted x = within 32 126 x && not (oneOf (bytes "\"\\") x) || eqb x (cod
 inClass Comment x = within 33 126 x && not (oneOf (bytes "()\\") x) || leb 128 x || oneOf (bytes " \t") x
 -- 01, Small pieces: (backslash with) one of 32 to 126 or tab
 inClass Escaped x = within 32 126 x || eqb x (code "\t")
+-- 01, Block and list: (the name of a field) bytes 33 to 126 except colon
+inClass Name x = within 33 126 x && not (eqb x (code ":"))
+-- 01, Block and list: (entries of) bytes 33 to 126
+inClass Visible x = within 33 126 x
+-- 01, Identifier and header version: one of space, tab, CR, "(" or ";"
+inClass Delimiter x = oneOf (bytes " \t\r(;") x
 
 -- the small letter of a capital, and any other byte itself
 unfoldable pub lower : ℕ → ℕ

@@ -56,6 +56,9 @@ pub enum Class {
     Quoted,
     Comment,
     Escaped,
+    Name,
+    Visible,
+    Delimiter,
 }
 
 // A class: a binary digit for each byte, the lowest first, 64 bytes to a word.
@@ -84,6 +87,9 @@ fn rows_of(c: Class) -> Rows
             0xffffffffffffffff,
         ),
         Class::Escaped => Rows(0xffffffff00000200, 0x7fffffffffffffff, 0x0, 0x0),
+        Class::Name => Rows(0xfbfffffe00000000, 0x7fffffffffffffff, 0x0, 0x0),
+        Class::Visible => Rows(0xfffffffe00000000, 0x7fffffffffffffff, 0x0, 0x0),
+        Class::Delimiter => Rows(0x800010100002200, 0x0, 0x0, 0x0),
     }
 }
 
@@ -145,6 +151,9 @@ fn escapes(c: Class) -> bool
         Class::Quoted => true,
         Class::Comment => true,
         Class::Escaped => false,
+        Class::Name => false,
+        Class::Visible => false,
+        Class::Delimiter => false,
     }
 }
 

@@ -6,7 +6,7 @@ use super::Class;
 ghost use mathlib.Core.Path.{_≡_};
 ghost use mathlib.Core.List.{map};
 ghost use mathlib.Core.Logic.{_⊎_};
-ghost use Prim.Native.Nat.{_+_, _-_, _≤_};
+ghost use Prim.Native.Nat.{_+_, _≤_};
 ghost use lib.ListN.{length, drop, set};
 ghost use Rattle.sequences.specs.Stored.{Put};
 ghost use Rattle.lexis.specs.Bytes.{lower, alike};
@@ -54,7 +54,7 @@ pub fn same_text(a: &[u8], b: &[u8]) -> bool
     }
     let mut j: usize = 0;
     loop {
-        let left = rest(a.len(), j);
+        let left = reading::rest(a.len(), j);
         if left < 16 {
             return same_rest(a, b, j);
         }
@@ -80,16 +80,6 @@ fn same_rest(a: &[u8], b: &[u8], at: usize) -> bool
     true
 }
 
-// How much of n is left at i.
-fn rest(n: usize, i: usize) -> usize
-    ensures { λ r. ⌜ r ≡ n - i ⌝ }
-{
-    if i < n {
-        return n - i;
-    }
-    0
-}
-
 fn least(a: usize, b: usize) -> usize
     ensures { λ r. ⌜ (r ≤ a) × (r ≤ b) × ((a ≤ r) ⊎ (b ≤ r)) ⌝ }
 {
@@ -99,11 +89,24 @@ fn least(a: usize, b: usize) -> usize
     b
 }
 
-// Writes a text in lower case. The room is measured once, so that the loop has no other test.
+// Writes a text. The room is measured once, so that the loop has no other test.
+pub fn put_text(part: &[u8], out: &mut [u8], to: usize) -> usize
+    ensures { λ r. ⌜ Put (now (out .entry)) to (now (part .entry)) (now (out .exit)) r ⌝ }
+{
+    let n = least(part.len(), reading::rest(out.len(), to));
+    let mut j: usize = 0;
+    while j < n {
+        out[to + j] = part[j];
+        j += 1;
+    }
+    part.len()
+}
+
+// Writes a text in lower case, in the same way.
 pub fn put_lower(part: &[u8], out: &mut [u8], to: usize) -> usize
     ensures { λ r. ⌜ Put (now (out .entry)) to (map lower (now (part .entry))) (now (out .exit)) r ⌝ }
 {
-    let n = least(part.len(), rest(out.len(), to));
+    let n = least(part.len(), reading::rest(out.len(), to));
     let mut j: usize = 0;
     while j < n {
         out[to + j] = lower(part[j]);

@@ -9,3 +9,4 @@ pub mod Steadiness
 pub mod Repeats
 pub mod Places
 pub mod Walks
+pub mod Cases

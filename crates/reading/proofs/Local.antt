@@ -8,12 +8,13 @@ use mathlib.Core.Path.{_≡_, refl, sym, ap, _∙_}
 use mathlib.Core.Bool.{Bool, true, false, cond}
 use mathlib.Core.List.{List, [], _∷_, _++_}
 use lib.Dec.{eqb}
-use lib.ListN.{length, getD, drop, take}
-use lib.Seq.{take-append-le}
+use lib.ListN.{length, getD, drop, take, length-drop}
+use lib.Seq.{take-append-le, drop-append-le}
 use borrow.Author.Tests.{eqb-true}
 use Rattle.sequences.proofs.Lists.{getD-either, getD-behind}
+use Rattle.reading.specs.Texts.{outside, follows}
 use Rattle.reading.specs.Readers.{Reader, run, many, choose, between, passing, lasts}
-use Rattle.reading.specs.Locality.{Fits, Any, Ends, Local, Leaves, Shut}
+use Rattle.reading.specs.Locality.{Fits, Any, Ends, Follows, Local, Leaves, Shut}
 use Rattle.reading.proofs.Readers.{many-past, many-none, lasts-none, choose-yes, choose-no, between-is, between-not, passing-yes, passing-inv, run-none, run-ends, many-ends}
 
 -- fewer things may follow
@@ -33,6 +34,21 @@ run-at c (b ∷ p) x y (suc n) e h g = go (c b) refl (λ q. run-at c p x y n q (
 
 pub run-local : (c : ℕ → Bool) → Local (run c) (Ends (run c))
 run-local c p x y n e h g = run-at c p x y (suc n) e h g
+
+-- a run that ends inside p ends there whatever follows p
+pub run-inside : (c : ℕ → Bool) (p x y : List ℕ) (n : ℕ) → run c (p ++ x) ≡ n → n < length p → run c (p ++ y) ≡ n
+unfolding follows
+run-inside c p x y n e h = run-at c p x y n e (omega arith) (run-none c (drop n p ++ y) ends)
+  where
+    d : (z : List ℕ) → drop n (p ++ z) ≡ drop n p ++ z
+    d z = drop-append-le n p z (omega arith)
+
+    same : (q : List ℕ) → 0 < length q → Follows (outside c) (q ++ x) → Follows (outside c) (q ++ y)
+    same [] o f = absurd (let z : 0 < 0 = o in omega arith)
+    same (b ∷ q) o f = f
+
+    ends : Follows (outside c) (drop n p ++ y)
+    ends = same (drop n p) (rw length-drop (omega arith)) (rw (← d x, ← e) (run-ends c (p ++ x)))
 
 pub choose-local : (a : ℕ) (f g : Reader) (F : List ℕ → Type 0) → Local f F → Local g F → Local (choose a f g) F
 choose-local a f g F L M [] x y n e h k = absurd (not-suc-le-zero h)

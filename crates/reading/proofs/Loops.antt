@@ -29,6 +29,14 @@ module _ {f : Reader} {s : List ℕ} {at : ℕ} where
   pub reaches-end : {i : ℕ} → Reaches f s at i → f (drop i s) ≡ 0 → i ≡ at + f (drop at s)
   reaches-end w e = omega (arith, w .same)
 
+  -- one walk after another
+  pub reaches-onto : {i j : ℕ} → Reaches f s at i → Reaches f s i j → Reaches f s at j
+  reaches-onto w v = record { same = omega (arith, w .same, v .same) }
+
+-- what is found from i on is found from `at` on
+pub reaches-found : (f : Reader) (s : List ℕ) (at i r : ℕ) → Reaches f s at i → r ≡ i + f (drop i s) → r ≡ at + f (drop at s)
+reaches-found f s at i r w e = e ∙ w .same
+
 -- ==== a run
 
 module _ (c : ℕ → Bool) (s : List ℕ) (at i : ℕ) where
@@ -44,6 +52,18 @@ module _ (c : ℕ → Bool) (s : List ℕ) (at i : ℕ) where
   pub run-out : Reaches (run c) s at i → length s ≤ i → i ≡ at + run c (drop at s)
   unfolding run
   run-out w h = reaches-end w (rw drop-of-length-le)
+
+-- ==== a run, several bytes at once: j of them are passed
+
+module _ (c : ℕ → Bool) (s : List ℕ) (at : ℕ) where
+  pub piece-none : Reaches (run c) s at (at + 0)
+  piece-none = record { same = rw add-zero }
+
+  pub piece-more : (j : ℕ) (r : Bool) → Reaches (run c) s at (at + j) → at + j < length s → r ≡ c (getD s (at + j) 0) → r ≡ true → Reaches (run c) s at (at + (j + 1))
+  piece-more j r w h e q = let a : at + j + 1 ≡ at + (j + 1) = omega arith in rw (← a) (run-on c s at (at + j) r w h e q)
+
+  pub piece-all : (j n : ℕ) → Reaches (run c) s at (at + j) → j ≡ n → Reaches (run c) s at (at + n)
+  piece-all j n w e = rw (← e) w
 
 -- ==== one thing after another
 

@@ -77,6 +77,39 @@ module _ (c : ℕ → Bool) where
       go true q zero h ih = q
       go true q (suc k) h ih = let l : suc k < suc (run c xs) = rw (run, q) at h in ih k (le-of-suc-le-suc l)
 
+  -- a run goes on from any place in it
+  pub run-from : (k : ℕ) (xs : List ℕ) → k ≤ run c xs → run c xs ≡ k + run c (drop k xs)
+  unfolding run
+  run-from zero xs h = omega arith
+  run-from (suc k) [] h = absurd (not-suc-le-zero h)
+  run-from (suc k) (x ∷ xs) h = go (c x) refl (run-from k xs)
+    where
+      go : (t : Bool) → c x ≡ t → (k ≤ run c xs → run c xs ≡ k + run c (drop k xs)) → run c (x ∷ xs) ≡ suc k + run c (drop k xs)
+      go true e ih = rw (run, e) (omega (arith, ih (le-of-suc-le-suc (rw (run, e) at h))))
+      go false e ih = absurd (not-suc-le-zero (rw (run, e) at h))
+
+  -- a run is the same in the first m bytes, if it has no more
+  pub run-take : (m : ℕ) (xs : List ℕ) → run c xs ≤ m → run c (take m xs) ≡ run c xs
+  unfolding run
+  run-take zero [] h = refl
+  run-take zero (x ∷ xs) h = omega arith
+  run-take (suc m) [] h = refl
+  run-take (suc m) (x ∷ xs) h = go (c x) refl (run-take m xs)
+    where
+      go : (t : Bool) → c x ≡ t → (run c xs ≤ m → run c (take m xs) ≡ run c xs) → run c (x ∷ take m xs) ≡ run c (x ∷ xs)
+      go true e ih = rw (run, e) (ap suc (ih (le-of-suc-le-suc (rw (run, e) at h))))
+      go false e ih = rw (run, e)
+
+-- a run of a narrower class is no longer
+pub run-narrow : (c d : ℕ → Bool) → ((b : ℕ) → c b ≡ true → d b ≡ true) → (xs : List ℕ) → run c xs ≤ run d xs
+unfolding run
+run-narrow c d h [] = zero-le
+run-narrow c d h (x ∷ xs) = go (c x) refl (run-narrow c d h xs)
+  where
+    go : (t : Bool) → c x ≡ t → run c xs ≤ run d xs → run c (x ∷ xs) ≤ run d (x ∷ xs)
+    go true e ih = rw (run, e, h x e) (suc-le-suc ih)
+    go false e ih = rw (run, e) zero-le
+
 -- ==== many, and the last bytes of what it takes
 
 module _ (f : Reader) where

@@ -6,7 +6,8 @@ use mathlib.Core.Path.{_≡_, refl, sym, ap, _∙_}
 use mathlib.Core.Bool.{Bool, true, false, not, _&&_, _||_}
 use mathlib.Core.List.{List, [], _∷_}
 use lib.Dec.{eqb}
-use lib.ListN.{length, getD}
+use lib.ListN.{length, getD, drop, drop-of-length-le}
+use lib.Seq.{drop-cons}
 use borrow.Author.Tests.{eqb-true, eq-eqb, not-true}
 use Rattle.sequences.proofs.Booleans.{no-true, both, and-left, and-right, and-none, true-not}
 use Rattle.reading.specs.Texts.{oneOf, outside, same, starts, follows}
@@ -94,3 +95,13 @@ pub follows-not : (c : ℕ → Bool) (t : List ℕ) → Follows (outside c) t �
 unfolding starts follows
 follows-not c [] e = refl
 follows-not c (x ∷ t) e = not-true (c x) e
+
+-- what comes next at a place of a list
+module _ (c : ℕ → Bool) (s : List ℕ) (at : ℕ) where
+  pub follows-at : at < length s → (r : Bool) → r ≡ c (getD s at 0) → r ≡ follows c (drop at s)
+  unfolding follows
+  follows-at h r e = e ∙ rw (drop-cons s at 0 h)
+
+  pub follows-end : length s ≤ at → true ≡ follows c (drop at s)
+  unfolding follows
+  follows-end h = rw (drop-of-length-le {A = ℕ} s h)

@@ -7,8 +7,8 @@ use native.Mathlib.Omega.{arith}
 use mathlib.Core.Path.{_≡_, refl, sym, ap, _∙_}
 use mathlib.Core.Logic.{_⊎_, ⊎-elim}
 use mathlib.Core.List.{List, [], _∷_, _++_}
-use lib.ListN.{length, drop, getD, set, length-append, drop-of-length-le}
-use lib.Seq.{sets, sets-eq, set-out, length-sets, drop-cons}
+use lib.ListN.{length, take, drop, getD, set, length-append, drop-of-length-le}
+use lib.Seq.{sets, sets-eq, set-out, length-sets, drop-cons, take-append-seam}
 use Rattle.sequences.specs.Stored.{Wrote, Put}
 
 -- a text in two parts: the first, and then the second after it
@@ -57,6 +57,15 @@ put-wrote p = record { place = omega (arith, p .count); bytes = p .bytes }
 
 pub wrote-put : {old text new : List ℕ} {at size : ℕ} → Wrote old at text new (at + size) → Put old at text new size
 wrote-put w = record { count = omega (arith, w .place); bytes = w .bytes }
+
+-- a text that fits, stored from the start, stands there
+pub put-front : {old text new : List ℕ} {size : ℕ} → Put old 0 text new size → size ≤ length old → take size new ≡ text
+put-front {old} {text} p h =
+    let f : length text ≤ length old = omega (arith, p .count) in
+    rw (p .count, p .bytes, sets-front old text f) (take-append-seam text (drop (length text) old))
+
+pub put-long : {old text new : List ℕ} {at size : ℕ} → Put old at text new size → length new ≡ length old
+put-long {old} {text} {new} {at} p = ap length (p .bytes) ∙ length-sets old at text
 
 -- ==== loops that write: what is still to be written, `text` from `at` on, ends as `whole` from `from` on would have
 

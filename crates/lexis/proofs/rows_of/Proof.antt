@@ -33,6 +33,15 @@ enum-told-8 c = search needs
 enum-told-9 : tie.Need-enum-told-9
 enum-told-9 c = search needs
 
+enum-told-10 : tie.Need-enum-told-10
+enum-told-10 c = search needs
+
+enum-told-11 : tie.Need-enum-told-11
+enum-told-11 c = search needs
+
+enum-told-12 : tie.Need-enum-told-12
+enum-told-12 c = search needs
+
 returns : tie.Need-returns
 unfolding inClass letter within oneOf bitsOf
 returns c = rw (c .enum-told .given .1)
@@ -69,6 +78,18 @@ returns-9 : tie.Need-returns-9
 unfolding inClass letter within oneOf bitsOf
 returns-9 c = rw (c .enum-told9 .given .1)
 
+returns-10 : tie.Need-returns-10
+unfolding inClass letter within oneOf bitsOf
+returns-10 c = rw (c .enum-told10 .given .1)
+
+returns-11 : tie.Need-returns-11
+unfolding inClass letter within oneOf bitsOf
+returns-11 c = rw (c .enum-told11 .given .1)
+
+returns-12 : tie.Need-returns-12
+unfolding inClass letter within oneOf bitsOf
+returns-12 c = rw (c .enum-told12 .given .1)
+
 pub rows-of-spec : {M : Type 1} → statement M
 rows-of-spec =
     tie.close
@@ -82,6 +103,9 @@ rows-of-spec =
     enum-told-7
     enum-told-8
     enum-told-9
+    enum-told-10
+    enum-told-11
+    enum-told-12
     returns
     returns-2
     returns-3
@@ -90,4 +114,7 @@ rows-of-spec =
     returns-6
     returns-7
     returns-8
-    returns-9)
+    returns-9
+    returns-10
+    returns-11
+    returns-12)
