@@ -1,0 +1,142 @@
+-- The fields of a block that is not refused are its bytes, and the bytes of sound fields walk back to exactly these fields; so with those
+-- of the fields that pass a test. By induction on the block and on the fields. Assumes nothing.
+use Prim.Native.Nat.{ℕ, zero, suc, _+_, _-_, _≤_, _<_, zero-le, suc-le-suc}
+use native.Mathlib.Nat.{le-of-suc-le-suc, not-suc-le-zero}
+use native.Mathlib.Omega.{arith}
+use mathlib.Core.Path.{_≡_, refl, ap, _∙_}
+use mathlib.Core.Bool.{Bool, true, false, not}
+use mathlib.Core.List.{List, [], _∷_, _++_}
+use lib.ListN.{length, getD, drop, take, length-append, take-append-drop, List·getD-append}
+use lib.Seq.{drop-append-seam}
+use Rattle.reading.specs.Walks.{Met, item, refused, walk}
+use Rattle.reading.proofs.Walks.{walk-item, walk-end}
+use Rattle.lexis.specs.declared.Class.the-variants.{Blank}
+use Rattle.lexis.specs.Bytes.{inClass}
+use Rattle.lexis.proofs.Bytes.{class-zero}
+use Rattle.block.specs.Fields.{Field, fieldLimit, fieldAt, fields, bytesOf, those}
+use Rattle.block.specs.Sound.{Sound, AllSound, none, more}
+use Rattle.block.proofs.Field.{shown, field-size, field-bytes, field-below, field-sound}
+
+-- a refusal's number is 2 at least
+pub refusal : (at count : ℕ) (xs : List ℕ) (n p : ℕ) → fieldAt at count xs ≡ refused n p → 2 ≤ n
+refusal at count xs n p e = rw e at (shown at count xs)
+
+-- ==== a block is its fields
+
+-- the fields of a walk that came to the end
+pub record Fine (count : ℕ) (fs : List Field) (xs : List ℕ) : Type 0 where
+  pub bytes : bytesOf fs ≡ xs
+  pub sound : AllSound fs
+  pub few : count + length fs ≤ fieldLimit
+
+fine-more : (count : ℕ) (f : Field) (fs : List Field) (y ys : List ℕ) → Sound f → f .bytes ≡ y → Fine (suc count) fs ys → Fine count (f ∷ fs) (y ++ ys)
+unfolding bytesOf
+fine-more count f fs y ys s e w = record { bytes = rw (e, w .bytes); sound = more s (w .sound); few = omega (arith, w .few) }
+
+pub walk-fine : (at count k : ℕ) (xs : List ℕ) → k ≤ length xs → count ≤ fieldLimit → walk fieldAt at count k xs .number ≡ 0
+    → Fine count (walk fieldAt at count k xs .items) (drop k xs)
+unfolding walk bytesOf
+walk-fine at count zero [] h c z = record { bytes = refl; sound = none; few = omega arith }
+walk-fine at count (suc k) [] h c z = absurd (not-suc-le-zero h)
+walk-fine at count (suc k) (x ∷ xs) h c z = walk-fine (suc at) count k xs (le-of-suc-le-suc h) c z
+walk-fine at count zero (x ∷ xs) h c z = go (λ k. walk-fine (suc at) (suc count) k xs) (fieldAt at count (x ∷ xs)) refl
+  where
+    go : ((k : ℕ) → k ≤ length xs → suc count ≤ fieldLimit → walk fieldAt (suc at) (suc count) k xs .number ≡ 0 → Fine (suc count) (walk fieldAt (suc at) (suc count) k xs .items) (drop k xs))
+        → (m : Met Field) → fieldAt at count (x ∷ xs) ≡ m → Fine count (walk fieldAt at count zero (x ∷ xs) .items) (x ∷ xs)
+    go ih (refused n p) e = absurd (let o : n ≡ 0 = rw (walk, e) at z in omega (arith, refusal at count (x ∷ xs) n p e))
+    go ih (item f zero) e = absurd (let o : 0 < 0 = field-size at count (x ∷ xs) f 0 e .0 in omega arith)
+    go ih (item f (suc n)) e =
+        let s = field-size at count (x ∷ xs) f (suc n) e in
+        let d : suc n - 1 ≡ n = omega arith in
+        let r : walk fieldAt (suc at) (suc count) n xs .number ≡ 0 = rw (walk, e, d) at z in
+        let t : take (suc n) (x ∷ xs) ++ drop n xs ≡ x ∷ xs = take-append-drop (suc n) (x ∷ xs) in
+        let w = fine-more count f (walk fieldAt (suc at) (suc count) n xs .items) (take (suc n) (x ∷ xs)) (drop n xs)
+        (field-sound at count (x ∷ xs) f (suc n) e) (field-bytes at count (x ∷ xs) f (suc n) e)
+        (ih n (le-of-suc-le-suc (s .1)) (field-below at count (x ∷ xs) f (suc n) e) r) in
+        rw (walk, e, d) (rw t at w)
+
+pub fields-fine : (block : List ℕ) → fields block .number ≡ 0 → Fine 0 (fields block .items) block
+fields-fine block z = walk-fine 0 0 0 block zero-le zero-le z
+
+-- ==== and back
+
+first-sound : {fs : List Field} → AllSound fs → inClass Blank (getD (bytesOf fs) 0 0) ≡ false
+unfolding bytesOf
+first-sound none = class-zero Blank
+first-sound (more {f} {fs} s a) = rw (List·getD-append (f .bytes) (bytesOf fs) 0 0 (s .some)) (s .first)
+
+pub walk-back : (at count : ℕ) {fs : List Field} → AllSound fs → count + length fs ≤ fieldLimit
+    → walk fieldAt at count 0 (bytesOf fs) ≡ record { items = fs; number = 0; place = 0 }
+unfolding bytesOf
+walk-back at count none h = walk-end fieldAt at count
+walk-back at count (more {f} {fs} s a) h =
+    let l : 0 < length (f .bytes ++ bytesOf fs) = rw length-append (omega (arith, s .some)) in
+    walk-item fieldAt at count (f .bytes ++ bytesOf fs) f (length (f .bytes)) l (s .some) (s .steady at count (bytesOf fs) (omega arith) (first-sound a))
+    ∙ rw (drop-append-seam (f .bytes) (bytesOf fs), walk-back (at + length (f .bytes)) (suc count) a (omega arith))
+
+-- ==== those of the fields that pass a test
+
+module _ (p : Field → Bool) (f : Field) (fs : List Field) where
+  pub those-yes : p f ≡ true → those p (f ∷ fs) ≡ f ∷ those p fs
+  unfolding those
+  those-yes e = rw (those, e)
+
+  pub those-no : p f ≡ false → those p (f ∷ fs) ≡ those p fs
+  unfolding those
+  those-no e = rw (those, e)
+
+pub those-sound : (p : Field → Bool) {fs : List Field} → AllSound fs → AllSound (those p fs)
+unfolding those
+those-sound p none = none
+those-sound p (more {f} {fs} s a) = go (p f) refl (those-sound p a)
+  where
+    go : (t : Bool) → p f ≡ t → AllSound (those p fs) → AllSound (those p (f ∷ fs))
+    go true e ih = rw (those-yes p f fs e) (more s ih)
+    go false e ih = rw (those-no p f fs e) ih
+
+pub those-few : (p : Field → Bool) (fs : List Field) → length (those p fs) ≤ length fs
+unfolding those
+those-few p [] = zero-le
+those-few p (f ∷ fs) = go (p f) refl (those-few p fs)
+  where
+    go : (t : Bool) → p f ≡ t → length (those p fs) ≤ length fs → length (those p (f ∷ fs)) ≤ suc (length fs)
+    go true e ih = rw (those-yes p f fs e) (suc-le-suc ih)
+    go false e ih = rw (those-no p f fs e) (omega arith)
+
+-- they are the fields of their bytes, and that block is not refused
+pub those-fields : (p : Field → Bool) (block : List ℕ) → fields block .number ≡ 0
+    → fields (bytesOf (those p (fields block .items))) ≡ record { items = those p (fields block .items); number = 0; place = 0 }
+those-fields p block z =
+    let w = fields-fine block z in
+    walk-back 0 0 (those-sound p (w .sound)) (omega (arith, w .few, those-few p (fields block .items)))
+
+-- two tests, of which each field passes one
+pub those-sum : (p : Field → Bool) (fs : List Field) → length (bytesOf (those (λ f. not (p f)) fs)) + length (bytesOf (those p fs)) ≡ length (bytesOf fs)
+unfolding those bytesOf
+those-sum p [] = refl
+those-sum p (f ∷ fs) = go (p f) refl (those-sum p fs)
+  where
+    go : (t : Bool) → p f ≡ t → length (bytesOf (those (λ g. not (p g)) fs)) + length (bytesOf (those p fs)) ≡ length (bytesOf fs)
+        → length (bytesOf (those (λ g. not (p g)) (f ∷ fs))) + length (bytesOf (those p (f ∷ fs))) ≡ length (f .bytes ++ bytesOf fs)
+    go true e ih = rw (those, e) (omega (arith, length-append (f .bytes) (bytesOf (those p fs)), length-append (f .bytes) (bytesOf fs)))
+    go false e ih = rw (those, e) (omega (arith, length-append (f .bytes) (bytesOf (those (λ g. not (p g)) fs)), length-append (f .bytes) (bytesOf fs)))
+
+-- once more changes nothing
+pub those-again : (p : Field → Bool) (fs : List Field) → those p (those p fs) ≡ those p fs
+unfolding those
+those-again p [] = refl
+those-again p (f ∷ fs) = go (p f) refl (those-again p fs)
+  where
+    go : (t : Bool) → p f ≡ t → those p (those p fs) ≡ those p fs → those p (those p (f ∷ fs)) ≡ those p (f ∷ fs)
+    go true e ih = rw (those-yes p f fs e, those-yes p f (those p fs) e) (ap (_∷_ f) ih)
+    go false e ih = rw (those-no p f fs e) ih
+
+-- of those that fail none passes
+pub those-none : (p : Field → Bool) (fs : List Field) → those p (those (λ f. not (p f)) fs) ≡ []
+unfolding those
+those-none p [] = refl
+those-none p (f ∷ fs) = go (p f) refl (those-none p fs)
+  where
+    go : (t : Bool) → p f ≡ t → those p (those (λ g. not (p g)) fs) ≡ [] → those p (those (λ g. not (p g)) (f ∷ fs)) ≡ []
+    go true e ih = rw (those, e) ih
+    go false e ih = rw (those, e) (rw (those, e) ih)

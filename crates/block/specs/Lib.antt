@@ -1,0 +1,4 @@
+pub mod Fields
+pub mod OwnList
+pub mod Steps
+pub mod Sound

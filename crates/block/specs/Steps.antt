@@ -1,0 +1,73 @@
+-- What the code's answers say: one step of each walk, at places of the slice. Assumes nothing: these are definitions.
+use Prim.Native.Nat.{ℕ, zero, suc, _+_, _-_}
+use mathlib.Core.Bool.{Bool, true, false}
+use mathlib.Core.List.{List, [], _∷_}
+use lib.ListN.{getD, drop}
+use Rattle.reading.specs.Readers.{many}
+use Rattle.reading.specs.Walks.{Met, item, refused, Walked}
+use Rattle.lexis.specs.declared.Class.the-variants.{Blank}
+use Rattle.lexis.specs.Bytes.{inClass}
+use Rattle.block.specs.declared.Walk.{Walk}
+use Rattle.block.specs.declared.Next.{Next}
+use Rattle.block.specs.declared.Next.the-variants as next
+use Rattle.block.specs.declared.Entries.{Entries}
+use Rattle.block.specs.declared.Listed.{Listed}
+use Rattle.block.specs.declared.Listed.the-variants as listed
+use Rattle.block.specs.declared.Checked.{Checked}
+use Rattle.block.specs.declared.Checked.the-variants as checked
+use Rattle.block.specs.Fields.{Field, lineText, folded, fieldAt}
+use Rattle.block.specs.OwnList.{entryAt}
+
+-- ==== fields
+
+-- a walk from the front, before its first field
+abbrev pub freshWalk : Walk
+freshWalk = record { at = 0; count = 0 }
+
+-- a field by the places where it starts, its name ends, its body starts and it ends; or the refusal
+abbrev pub nextOf : ℕ → Met Field → Next
+nextOf at (item f n) = next.Field at (at + f .name) (at + f .body) (at + n)
+nextOf at (refused n p) = next.Refused n p
+
+-- what stands at a place of a walk: nothing at the end
+unfoldable pub nextFrom : ℕ → ℕ → List ℕ → Next
+nextFrom at count [] = next.End
+nextFrom at count (x ∷ xs) = nextOf at (fieldAt at count (x ∷ xs))
+
+abbrev pub nextAt : List ℕ → Walk → Next
+nextAt s w = nextFrom (w .at) (w .count) (drop (w .at) s)
+
+-- ==== entries
+
+abbrev pub freshEntries : Entries
+freshEntries = record { at = 0; count = 0 }
+
+-- an entry by the places where it starts and where its LF stands; or the bad entry's place
+abbrev pub listedOf : ℕ → Met (List ℕ) → Listed
+listedOf at (item t n) = listed.Entry at (at + (n - 1))
+listedOf at (refused n p) = listed.Bad p
+
+unfoldable pub listedFrom : ℕ → ℕ → List ℕ → Listed
+listedFrom at count [] = listed.End
+listedFrom at count (x ∷ xs) = listedOf at (entryAt at count (x ∷ xs))
+
+abbrev pub listedAt : List ℕ → Entries → Listed
+listedAt s w = listedFrom (w .at) (w .count) (drop (w .at) s)
+
+-- the list is good, or bad from the start of its first bad entry
+abbrev pub checkedOf : Walked (List ℕ) → Checked
+checkedOf w = elim (w .number) [ zero ↦ checked.Good | suc n ↦ checked.Bad (w .place) ]
+
+-- ==== the last part of a step, which only private functions say
+
+-- the field at `at` whose name ends at n and whose label ends at b, where its further lines end at e
+unfoldable pub finishedAt : ℕ → ℕ → ℕ → List ℕ → ℕ → Next
+finishedAt at n b s e =
+    elim (inClass Blank (getD (drop e s) 0 0)) [
+      | true ↦ next.Refused 2 (e + lineText (drop e s))
+      | false ↦ next.Field at n b e
+    ]
+
+-- the same where its first line ends at l
+unfoldable pub finished : ℕ → ℕ → ℕ → ℕ → List ℕ → Next
+finished at l n b s = finishedAt at n b s (l + many folded 0 (drop l s))

@@ -1,0 +1,363 @@
+// The fields of a header block, one at a time, and our own list of identifiers.
+//
+// `next_field` answers what stands at a place of a walk: a field, by four places; the end; or a refusal, with its number and place:
+//   2  a CR without LF, an LF without CR, or a last line without CRLF: that byte; for an unfinished line the block length
+//   3  an empty line, a first line starting with space or tab, or a field that lacks name or colon: the start of the line
+//   4  a 513th field: its start
+// A block of more than 65,536 bytes is the caller's to refuse (`lexis::too_long`).
+//
+// `check_list` answers whether a list is good, or where its first bad entry starts (5).
+use lexis::Class;
+ghost use mathlib.Core.Path.{_≡_};
+ghost use mathlib.Core.Bool.{false};
+ghost use Prim.Native.Nat.{_+_, _≤_};
+ghost use lib.ListN.{length, drop, getD};
+ghost use Rattle.reading.specs.Readers.{many};
+ghost use Rattle.reading.specs.Places.{Reaches};
+ghost use Rattle.lexis.specs.Bytes.{inClass};
+ghost use Rattle.block.specs.Fields.{inLine, lineText, line, name, label, folded};
+ghost use Rattle.block.specs.OwnList.{entryText, entry, ownList};
+ghost use Rattle.block.specs.Steps.{freshWalk, nextAt, finished, freshEntries, listedAt, checkedOf};
+
+// Where a walk over a block stands, and how many fields it has passed.
+pub struct Walk {
+    pub at: usize,
+    pub count: usize,
+}
+
+impl Walk {
+    // The most fields that a block may have.
+    pub const FIELDS: usize = 512;
+
+    // A walk from the front.
+    pub fn fresh() -> Walk
+        ensures { λ r. ⌜ r ≡ freshWalk ⌝ }
+    {
+        Walk { at: 0, count: 0 }
+    }
+}
+
+// What stands at a place of a walk. A field runs from `start` up to `end`, its last CRLF included; its name from `start` up to
+// `name_end`, its body from `body_start` up to two before `end`.
+pub enum Next {
+    Field {
+        start: usize,
+        name_end: usize,
+        body_start: usize,
+        end: usize,
+    },
+    End,
+    Refused {
+        number: u8,
+        place: usize,
+    },
+}
+
+// Neither CR nor LF.
+fn in_line(b: u8) -> bool
+    ensures { λ r. ⌜ r ≡ inLine b ⌝ }
+{
+    if b == b'\r' {
+        return false;
+    }
+    b != b'\n'
+}
+
+// The next CR or LF, or the end: a byte at a time.
+fn near(s: &[u8], at: usize) -> usize
+    ensures { λ r. ⌜ r ≡ at + lineText (drop at (now (s .entry))) ⌝ }
+{
+    let mut i = at;
+    while i < s.len() {
+        if in_line(s[i]) {
+            i += 1;
+        } else {
+            return i;
+        }
+    }
+    i
+}
+
+// Whether one of n bytes is CR or LF. There is no way out of the loop, so that with n a number in the call it is compiled to a few wide
+// compares.
+fn has_end(s: &[u8], at: usize, n: usize) -> bool
+    requires { ⌜ at + n ≤ length (now s) ⌝ }
+    ensures { λ r. ⌜ (r ≡ false → Reaches lineText (now (s .entry)) at (at + n)) ⌝ }
+{
+    let mut hit = false;
+    let mut j: usize = 0;
+    while j < n {
+        if in_line(s[at + j]) {
+            j += 1;
+        } else {
+            hit = true;
+            j += 1;
+        }
+    }
+    hit
+}
+
+// The next CR or LF, or the end: sixteen bytes at a time.
+fn line_text(s: &[u8], at: usize) -> usize
+    ensures { λ r. ⌜ r ≡ at + lineText (drop at (now (s .entry))) ⌝ }
+{
+    let mut i = at;
+    loop {
+        let r = reading::rest(s.len(), i);
+        if r < 16 {
+            return near(s, i);
+        }
+        if has_end(s, i, 16) {
+            return near(s, i);
+        }
+        i += 16;
+    }
+}
+
+// The end of a line with its CRLF: the place itself where it has none.
+fn line_end(s: &[u8], at: usize) -> usize
+    ensures { λ r. ⌜ r ≡ at + line (drop at (now (s .entry))) ⌝ }
+{
+    let e = line_text(s, at);
+    if reading::is_at(s, e, 0, b'\r') {
+        if reading::is_at(s, e, 1, b'\n') {
+            return e + 2;
+        }
+    }
+    at
+}
+
+fn blank_at(s: &[u8], at: usize) -> bool
+    ensures { λ r. ⌜ r ≡ inClass Class.Blank (getD (drop at (now (s .entry))) 0 0) ⌝ }
+{
+    lexis::in_class(Class::Blank, reading::byte(s, at, 0))
+}
+
+// The end of a line that starts with space or tab: the place itself where there is none.
+fn folded_end(s: &[u8], at: usize) -> usize
+    ensures { λ r. ⌜ r ≡ at + folded (drop at (now (s .entry))) ⌝ }
+{
+    if blank_at(s, at) {
+        return line_end(s, at);
+    }
+    at
+}
+
+// The end of such lines, one after the other.
+fn folds_end(s: &[u8], at: usize) -> usize
+    ensures { λ r. ⌜ r ≡ at + many folded 0 (drop at (now (s .entry))) ⌝ }
+{
+    let mut i = at;
+    loop {
+        let e = folded_end(s, i);
+        if e == i {
+            return i;
+        }
+        i = e;
+    }
+}
+
+// The place after the colon, where the name ends at n: the place itself where name or colon lacks.
+fn label_end(s: &[u8], at: usize, n: usize) -> usize
+    requires { ⌜ n ≡ at + name (drop at (now s)) ⌝ }
+    ensures { λ r. ⌜ r ≡ at + label (drop at (now (s .entry))) ⌝ }
+{
+    if n == at {
+        return at;
+    }
+    let e = lexis::run_end(s, n, Class::Blank);
+    if reading::is_at(s, e, 0, b':') {
+        return e + 1;
+    }
+    at
+}
+
+// The field whose first line ends at l, its name at n and its label at b.
+fn finish(s: &[u8], at: usize, l: usize, n: usize, b: usize) -> Next
+    ensures { λ r. ⌜ r ≡ finished at l n b (now (s .entry)) ⌝ }
+{
+    let e = folds_end(s, l);
+    if blank_at(s, e) {
+        return Next::Refused {
+            number: 2,
+            place: line_text(s, e),
+        };
+    }
+    Next::Field {
+        start: at,
+        name_end: n,
+        body_start: b,
+        end: e,
+    }
+}
+
+// What stands at a place of a walk.
+pub fn next_field(s: &[u8], w: Walk) -> Next
+    ensures { λ r. ⌜ r ≡ nextAt (now (s .entry)) w ⌝ }
+{
+    let at = w.at;
+    let count = w.count;
+    if s.len() <= at {
+        return Next::End;
+    }
+    let l = line_end(s, at);
+    if l == at {
+        return Next::Refused {
+            number: 2,
+            place: line_text(s, at),
+        };
+    }
+    let n = lexis::run_end(s, at, Class::Name);
+    let b = label_end(s, at, n);
+    if b == at {
+        return Next::Refused {
+            number: 3,
+            place: at,
+        };
+    }
+    if count >= Walk::FIELDS {
+        return Next::Refused {
+            number: 4,
+            place: at,
+        };
+    }
+    finish(s, at, l, n, b)
+}
+
+// Where a walk over a list of our own stands, and how many entries it has passed.
+pub struct Entries {
+    pub at: usize,
+    pub count: usize,
+}
+
+impl Entries {
+    // The most entries that a list may have.
+    pub const ENTRIES: usize = 64;
+    // The most bytes that an entry may have.
+    pub const LONGEST: usize = 255;
+
+    // A walk from the front.
+    pub fn fresh() -> Entries
+        ensures { λ r. ⌜ r ≡ freshEntries ⌝ }
+    {
+        Entries { at: 0, count: 0 }
+    }
+}
+
+// What stands at a place of such a walk: an entry from `start` up to its LF at `end`, the end, or a bad entry.
+pub enum Listed {
+    Entry { start: usize, end: usize },
+    End,
+    Bad { place: usize },
+}
+
+// From 33 to 126.
+fn is_visible(b: u8) -> bool
+    ensures { λ r. ⌜ r ≡ inClass Class.Visible b ⌝ }
+{
+    if b < 33 {
+        return false;
+    }
+    b <= 126
+}
+
+// Whether one of n bytes is not visible, in the same way as `has_end`.
+fn has_other(s: &[u8], at: usize, n: usize) -> bool
+    requires { ⌜ at + n ≤ length (now s) ⌝ }
+    ensures { λ r. ⌜ (r ≡ false → Reaches entryText (now (s .entry)) at (at + n)) ⌝ }
+{
+    let mut hit = false;
+    let mut j: usize = 0;
+    while j < n {
+        if is_visible(s[at + j]) {
+            j += 1;
+        } else {
+            hit = true;
+            j += 1;
+        }
+    }
+    hit
+}
+
+// The end of the text of an entry: sixteen bytes at a time.
+fn entry_text(s: &[u8], at: usize) -> usize
+    ensures { λ r. ⌜ r ≡ at + entryText (drop at (now (s .entry))) ⌝ }
+{
+    let mut i = at;
+    loop {
+        let r = reading::rest(s.len(), i);
+        if r < 16 {
+            return lexis::run_end(s, i, Class::Visible);
+        }
+        if has_other(s, i, 16) {
+            return lexis::run_end(s, i, Class::Visible);
+        }
+        i += 16;
+    }
+}
+
+// The end of an entry with its LF: the place itself where it is bad.
+fn entry_end(s: &[u8], at: usize) -> usize
+    ensures { λ r. ⌜ r ≡ at + entry (drop at (now (s .entry))) ⌝ }
+{
+    let e = entry_text(s, at);
+    if e == at {
+        return at;
+    }
+    if e - at > Entries::LONGEST {
+        return at;
+    }
+    if reading::is_at(s, e, 0, b'\n') {
+        return e + 1;
+    }
+    at
+}
+
+// What stands at a place of a walk over a list.
+pub fn next_entry(s: &[u8], w: Entries) -> Listed
+    ensures { λ r. ⌜ r ≡ listedAt (now (s .entry)) w ⌝ }
+{
+    let at = w.at;
+    let count = w.count;
+    if s.len() <= at {
+        return Listed::End;
+    }
+    let e = entry_end(s, at);
+    if e == at {
+        return Listed::Bad { place: at };
+    }
+    if count >= Entries::ENTRIES {
+        return Listed::Bad { place: at };
+    }
+    Listed::Entry {
+        start: at,
+        end: e - 1,
+    }
+}
+
+// Whether a list is good.
+pub enum Checked {
+    Good,
+    Bad { place: usize },
+}
+
+pub fn check_list(s: &[u8]) -> Checked
+    ensures { λ r. ⌜ r ≡ checkedOf (ownList (now (s .entry))) ⌝ }
+{
+    let mut at: usize = 0;
+    let mut count: usize = 0;
+    loop {
+        match next_entry(s, Entries { at, count }) {
+            Listed::Entry { start: _, end } => {
+                at = end + 1;
+                count += 1;
+            }
+            Listed::End => {
+                return Checked::Good;
+            }
+            Listed::Bad { place } => {
+                return Checked::Bad { place };
+            }
+        }
+    }
+}
