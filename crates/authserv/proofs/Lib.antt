@@ -1,0 +1,4 @@
+pub mod Identifiers
+pub mod Versions
+pub mod Listing
+pub mod Examples

@@ -1,0 +1,42 @@
+-- `authserv::identify` meets its contract: each way through the code is a case of the definition. Assumes nothing.
+use Rattle.authserv.proofs.Identifiers.{identify-quoted, identify-token}
+use borrow.Author.Needs.{needs}
+use Rattle.authserv.proofs.identify.Statement.{statement}
+use Rattle.authserv.proofs.identify.Tie as tie
+
+space-end-requires : tie.Need-space-end-requires
+space-end-requires c κs = search needs
+
+is-at-requires : tie.Need-is-at-requires
+is-at-requires c κs = search needs
+
+quoted-end-requires : tie.Need-quoted-end-requires
+quoted-end-requires c κs = search needs
+
+readable-requires : tie.Need-readable-requires
+readable-requires c κs = search needs
+
+returns : tie.Need-returns
+returns c = search identify-quoted
+
+identifier-token-end-requires : tie.Need-identifier-token-end-requires
+identifier-token-end-requires c κs = search needs
+
+readable-requires-2 : tie.Need-readable-requires-2
+readable-requires-2 c κs = search needs
+
+returns-2 : tie.Need-returns-2
+returns-2 c = search identify-token
+
+pub identify-spec : {M : Type 1} → statement M
+identify-spec =
+    tie.close
+    (tie.spec
+    space-end-requires
+    is-at-requires
+    quoted-end-requires
+    readable-requires
+    returns
+    identifier-token-end-requires
+    readable-requires-2
+    returns-2)

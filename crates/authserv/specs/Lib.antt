@@ -1,0 +1,4 @@
+pub mod Identifier
+pub mod Version
+pub mod Answers
+pub mod Listed

@@ -1,0 +1,102 @@
+// The identifier at the front of a field body (RFC 8601: authserv-id), the header version behind it, and whether an identifier is on our
+// own list.
+//
+// Where the identifier can't be read nothing further is tried: that is number 7 where a report is asked for, and the field goes where a
+// block is stripped.
+use lexis::Class;
+ghost use mathlib.Core.Path.{_≡_};
+ghost use Prim.Native.Nat.{_+_};
+ghost use lib.ListN.{drop};
+ghost use Rattle.reading.specs.Texts.{follows};
+ghost use Rattle.lexis.specs.Bytes.{inClass};
+ghost use Rattle.authserv.specs.Identifier.{identifierToken, sameIdentifier};
+ghost use Rattle.authserv.specs.Answers.{readable, identifierAt, versionAt};
+
+pub mod own;
+
+// Where an identifier stands: from `start` up to `end`, with its quotes where it is quoted.
+pub enum Identifier {
+    Readable {
+        start: usize,
+        end: usize,
+        quoted: bool,
+    },
+    Unreadable,
+}
+
+// Whether the end, or one of space, tab, CR, "(" and ";", comes next.
+pub fn delimited(s: &[u8], at: usize) -> bool
+    ensures { λ r. ⌜ r ≡ follows (inClass Class.Delimiter) (drop at (now (s .entry))) ⌝ }
+{
+    if at < s.len() {
+        return lexis::in_class(Class::Delimiter, s[at]);
+    }
+    true
+}
+
+// The end of the token of an identifier.
+fn identifier_token_end(s: &[u8], at: usize) -> usize
+    ensures { λ r. ⌜ r ≡ at + identifierToken (drop at (now (s .entry))) ⌝ }
+{
+    lexis::token_end(s, at)
+}
+
+// The value from a up to e, if there is one and it is delimited.
+fn readable(s: &[u8], a: usize, e: usize, quoted: bool) -> Identifier
+    ensures { λ r. ⌜ r ≡ readable (now (s .entry)) a e quoted ⌝ }
+{
+    if e == a {
+        return Identifier::Unreadable;
+    }
+    if delimited(s, e) {
+        return Identifier::Readable {
+            start: a,
+            end: e,
+            quoted,
+        };
+    }
+    Identifier::Unreadable
+}
+
+// The identifier of a body.
+pub fn identify(body: &[u8]) -> Identifier
+    ensures { λ r. ⌜ r ≡ identifierAt (now (body .entry)) ⌝ }
+{
+    let a = lexis::space_end(body, 0);
+    if reading::is_at(body, a, 0, b'"') {
+        return readable(body, a, lexis::quoted_end(body, a), true);
+    }
+    readable(body, a, identifier_token_end(body, a), false)
+}
+
+// Whether two identifiers are equal, by their texts.
+pub fn same_identifier(a: &[u8], b: &[u8]) -> bool
+    ensures { λ r. ⌜ r ≡ sameIdentifier (now (a .entry)) (now (b .entry)) ⌝ }
+{
+    lexis::text::same_text(a, b)
+}
+
+// The header version: the digits that count from `start` up to `end`, and whether their number is 1. Absent means 1.
+pub enum Version {
+    Absent,
+    Stated { start: usize, end: usize, one: bool },
+}
+
+// The header version behind an identifier that ends at a place.
+pub fn version_at(s: &[u8], at: usize) -> Version
+    ensures { λ r. ⌜ r ≡ versionAt (now (s .entry)) at ⌝ }
+{
+    let a = lexis::space_end(s, at);
+    if a == at {
+        return Version::Absent;
+    }
+    let d = lexis::digits_at(s, a);
+    if d.end == a {
+        return Version::Absent;
+    }
+    Version::Stated {
+        start: d.start,
+        end: d.end,
+        one: d.one,
+    }
+}
