@@ -1,0 +1,6 @@
+pub mod Goes
+pub mod Laws
+pub mod Sifting
+pub mod Ends
+pub mod Headlines
+pub mod Examples

@@ -1,0 +1,69 @@
+-- Document 01, "Stripping", and its answers in order. Assumes nothing: these are definitions.
+use Prim.Native.Nat.{ℕ, zero, suc}
+use mathlib.Core.Bool.{Bool, true, false, not, _&&_}
+use mathlib.Core.List.{List, []}
+use lib.Dec.{ltb}
+use lib.ListN.{length}
+use Rattle.reading.specs.Texts.{bytes}
+use Rattle.reading.specs.Parsers.{nothing, got}
+use Rattle.reading.specs.Walks.{Walked}
+use Rattle.lexis.specs.Limits.{byteLimit}
+use Rattle.block.specs.Fields.{Field, bodyOf, named, fields, bytesOf, those}
+use Rattle.block.specs.OwnList.{ownList}
+use Rattle.authserv.specs.Identifier.{identifier}
+use Rattle.authserv.specs.Listed.{among}
+
+-- whose identifier is unreadable or equals a list entry. The rest of the body doesn't matter
+unfoldable pub disowned : List (List ℕ) → List ℕ → Bool
+disowned own body = elim (identifier body) [ nothing ↦ true | got i _ ↦ among own i ]
+
+-- Removed: each field named Authentication-Results whose identifier is unreadable or equals a list entry
+unfoldable pub goes : List (List ℕ) → Field → Bool
+goes own f = named (bytes "Authentication-Results") f && disowned own (bodyOf f)
+
+abbrev pub gone : List (List ℕ) → List Field → List Field
+gone own = those (goes own)
+
+abbrev pub stays : List (List ℕ) → List Field → List Field
+stays own = those (λ f. not (goes own f))
+
+-- an answer, and what is written
+pub record Answer : Type 0 where
+  pub number : ℕ
+  pub place : ℕ
+  pub kept : ℕ
+  pub removed : ℕ
+  pub fields : ℕ
+  pub written : List ℕ
+
+-- 01, Answer numbers: refusals write nothing and return zero counts
+abbrev pub refuse : ℕ → ℕ → Answer
+refuse n p = record { number = n; place = p; kept = 0; removed = 0; fields = 0; written = [] }
+
+-- Returned: kept bytes, removed bytes and removed fields, each a sum over the fields
+abbrev pub done : List Field → List Field → Answer
+done keeps goers =
+    record {
+      number = 0;
+      place = 0;
+      kept = length (bytesOf keeps);
+      removed = length (bytesOf goers);
+      fields = length goers;
+      written = bytesOf keeps;
+    }
+
+-- 6: lent output shorter than the whole output; its place is the bytes needed
+unfoldable pub fitted : List Field → List Field → ℕ → Answer
+fitted keeps goers room = elim (ltb room (length (bytesOf keeps))) [ true ↦ refuse 6 (length (bytesOf keeps)) | false ↦ done keeps goers ]
+
+-- a walk's refusal, or what its items give
+abbrev pub unless : {A : Type 0} → Walked A → (List A → Answer) → Answer
+unless w f = elim (w .number) [ zero ↦ f (w .items) | suc n ↦ refuse (suc n) (w .place) ]
+
+-- 01, Answer numbers: stripping 1, 5, then 2 to 4, then 6
+unfoldable pub strip : List ℕ → List ℕ → ℕ → Answer
+strip block list room =
+    elim (ltb byteLimit (length block)) [
+      | true ↦ refuse 1 0
+      | false ↦ unless (ownList list) (λ own. unless (fields block) (λ fs. fitted (stays own fs) (gone own fs) room))
+    ]

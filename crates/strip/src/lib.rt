@@ -1,0 +1,146 @@
+// Stripping: a header block without the Authentication-Results fields that speak in our own name or in none.
+//
+// `strip(block, list, out)` writes the block without each field named Authentication-Results whose identifier is unreadable or equals an
+// entry of the list, and keeps every other byte in order. It answers
+//   0  done: kept and removed bytes and removed fields, place 0
+//   1  the block has more than 65,536 bytes: place 0
+//   5  a bad list: the start of its first bad entry
+//   2  a CR without LF, an LF without CR, or a last line without CRLF: that byte, or the block length
+//   3  an empty line, a first line starting with space or tab, or a field that lacks name or colon: the start of the line
+//   4  a 513th field: its start
+//   6  `out` is too short: the bytes needed
+// tried in this order. A refusal writes nothing and returns zero counts; bytes past those written stay unchanged.
+use authserv::own::Own;
+use block::Checked;
+use block::Next;
+use block::Walk;
+ghost use mathlib.Core.Path.{_≡_};
+ghost use mathlib.Core.Bool.{_&&_};
+ghost use lib.ListN.{length};
+ghost use Rattle.reading.specs.Texts.{bytes};
+ghost use Rattle.lexis.specs.Bytes.{alike};
+ghost use Rattle.block.specs.OwnList.{ownList};
+ghost use Rattle.strip.specs.Strip.{disowned, strip};
+ghost use Rattle.strip.specs.Answers.{answerOf, leaves, isDisowned, Sifted};
+
+pub struct Stripped {
+    pub number: u8,
+    pub place: usize,
+    pub kept: usize,
+    pub removed: usize,
+    pub fields: usize,
+}
+
+fn disowns(o: Own) -> bool
+    ensures { λ r. ⌜ r ≡ isDisowned o ⌝ }
+{
+    match o {
+        Own::Ours => true,
+        Own::Others => false,
+        Own::Unreadable => true,
+    }
+}
+
+// Whether the identifier of a body is unreadable or equals a list entry.
+fn is_disowned(list: &[u8], body: &[u8]) -> bool
+    ensures { λ r. ⌜ r ≡ disowned (ownList (now (list .entry)) .items) (now (body .entry)) ⌝ }
+{
+    disowns(authserv::own::whose(list, body))
+}
+
+// Whether a field with this name and this body is removed.
+fn is_removed(list: &[u8], name: &[u8], body: &[u8]) -> bool
+    ensures { λ r. ⌜ r ≡ (alike (now (name .entry)) (bytes "Authentication-Results") && disowned (ownList (now (list .entry)) .items) (now (body .entry))) ⌝ }
+{
+    if lexis::text::same_text(name, b"Authentication-Results") {
+        return is_disowned(list, body);
+    }
+    false
+}
+
+// Writes the kept fields over the front of `out`, as far as that reaches, up to the first refusal.
+fn sift(s: &[u8], list: &[u8], out: &mut [u8]) -> Stripped
+    ensures { λ r. ⌜ Sifted (now (s .entry)) (now (list .entry)) (now (out .entry)) (now (out .exit)) r ⌝ }
+{
+    let mut at: usize = 0;
+    let mut count: usize = 0;
+    let mut kept: usize = 0;
+    let mut removed: usize = 0;
+    let mut fields: usize = 0;
+    loop {
+        match block::next_field(s, Walk { at, count }) {
+            Next::Field {
+                start,
+                name_end,
+                body_start,
+                end,
+            } => {
+                if is_removed(list, &s[start..name_end], &s[body_start..end - 2]) {
+                    removed += end - start;
+                    fields += 1;
+                    at = end;
+                    count += 1;
+                } else {
+                    kept += lexis::text::put_text(&s[start..end], out, kept);
+                    at = end;
+                    count += 1;
+                }
+            }
+            Next::End => {
+                return Stripped {
+                    number: 0,
+                    place: 0,
+                    kept,
+                    removed,
+                    fields,
+                };
+            }
+            Next::Refused { number, place } => {
+                return Stripped {
+                    number,
+                    place,
+                    kept,
+                    removed,
+                    fields,
+                };
+            }
+        }
+    }
+}
+
+fn refuse(number: u8, place: usize) -> Stripped
+    ensures { λ r. ⌜ r ≡ record { number = number; place = place; kept = 0; removed = 0; fields = 0 } ⌝ }
+{
+    Stripped {
+        number,
+        place,
+        kept: 0,
+        removed: 0,
+        fields: 0,
+    }
+}
+
+// The first pass runs on no room at all, and so only measures: nothing is written before it is known that all of it fits.
+pub fn strip(s: &[u8], list: &[u8], out: &mut [u8]) -> Stripped
+    ensures { λ r. ⌜ r ≡ answerOf (strip (now (s .entry)) (now (list .entry)) (length (now (out .entry)))) ⌝ }
+    ensures { λ _. ⌜ now (out .exit) ≡ leaves (strip (now (s .entry)) (now (list .entry)) (length (now (out .entry)))) (now (out .entry)) ⌝ }
+{
+    if lexis::too_long(s) {
+        return refuse(1, 0);
+    }
+    match block::check_list(list) {
+        Checked::Bad { place } => {
+            return refuse(5, place);
+        }
+        Checked::Good => {}
+    }
+    let mut none = [0u8; 1];
+    let sums = sift(s, list, &mut none[..0]);
+    if sums.number != 0 {
+        return refuse(sums.number, sums.place);
+    }
+    if sums.kept > out.len() {
+        return refuse(6, sums.kept);
+    }
+    sift(s, list, out)
+}
