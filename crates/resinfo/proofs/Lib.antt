@@ -1,0 +1,5 @@
+pub mod Opened
+pub mod Following
+pub mod Values
+pub mod Results
+pub mod ResultExamples
