@@ -1,1 +1,84 @@
-// One result of a field body (RFC 8601: resinfo): its grammar, its abstract syntax and the table of methods. There is no code here yet.
+// One result of a field body (RFC 8601: resinfo): its grammar and its abstract syntax (specs/); its parts, property values and steps, read
+// at places; and the table of methods.
+use parts::Label;
+use value::Found;
+use value::Value;
+ghost use mathlib.Core.Path.{_≡_};
+ghost use lib.ListN.{drop};
+ghost use Rattle.resinfo.specs.Steps.{closes, endOf, propertyOf, stepAt};
+
+pub mod parts;
+pub mod table;
+pub mod value;
+
+// What stands behind a method, a reason or a property: a property, by the places of its names, its value and the place after it; the end of
+// the result, where ";" or the end of the body comes after the longest space; or neither, and the body is not well-formed (number 9).
+pub enum Step {
+    Property {
+        type_start: usize,
+        type_end: usize,
+        name_start: usize,
+        name_end: usize,
+        value: Value,
+        end: usize,
+    },
+    Done,
+    Refused,
+}
+
+// Whether ";" or the end comes next after the longest space.
+fn is_closed(s: &[u8], at: usize) -> bool
+    ensures { λ r. ⌜ r ≡ closes (drop at (now (s .entry))) ⌝ }
+{
+    let a = lexis::space_end(s, at);
+    if a < s.len() {
+        return s[a] == b';';
+    }
+    true
+}
+
+// The end of a result, or neither.
+fn end_of(closed: bool) -> Step
+    ensures { λ r. ⌜ r ≡ endOf closed ⌝ }
+{
+    if closed { Step::Done } else { Step::Refused }
+}
+
+// The property with a ptype from a up to e, a name from b up to f, and the value that was found behind them.
+fn property_of(a: usize, e: usize, b: usize, f: usize, found: Found) -> Step
+    ensures { λ r. ⌜ r ≡ propertyOf a e b f found ⌝ }
+{
+    match found {
+        Found::Read { value, end } => Step::Property {
+            type_start: a,
+            type_end: e,
+            name_start: b,
+            name_end: f,
+            value,
+            end,
+        },
+        Found::Refused => Step::Refused,
+    }
+}
+
+// The next step of a result, behind a part that ends at a place.
+pub fn step_at(s: &[u8], at: usize) -> Step
+    ensures { λ r. ⌜ r ≡ stepAt (now (s .entry)) at ⌝ }
+{
+    match parts::label_at(s, at) {
+        Label::Read {
+            type_start,
+            type_end,
+            name_start,
+            name_end,
+            value,
+        } => property_of(
+            type_start,
+            type_end,
+            name_start,
+            name_end,
+            value::value_at(s, value),
+        ),
+        Label::Missing => end_of(is_closed(s, at)),
+    }
+}

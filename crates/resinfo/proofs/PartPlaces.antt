@@ -1,0 +1,163 @@
+-- Where the parts that the code finds stand: in order, inside the slice, and behind the place that was asked for, so that a caller may
+-- cut them out and gets on. From what each reader takes being there. Assumes nothing.
+use Prim.Native.Nat.{ℕ, zero, suc, _+_, _≤_, _<_}
+use native.Mathlib.Omega.{arith}
+use mathlib.Core.Path.{_≡_, refl, sym, subst}
+use mathlib.Core.Bool.{Bool, true, false}
+use mathlib.Core.List.{List}
+use lib.Dec.{eqb}
+use lib.ListN.{length, getD, drop, length-drop}
+use Rattle.reading.specs.Readers.{Reader}
+use Rattle.reading.specs.Locality.{Fits}
+use Rattle.reading.proofs.Readers.{run-fits}
+use Rattle.lexis.specs.declared.Class.the-variants as class
+use Rattle.lexis.specs.Bytes.{inClass}
+use Rattle.lexis.specs.Pieces.{space, token, quoted, keyword, digits}
+use Rattle.lexis.specs.Answers.{valueAt}
+use Rattle.lexis.proofs.Pieces.{space-fits, quoted-fits, keyword-fits}
+use Rattle.lexis.proofs.Values.{value-unclosed, value-quoted, value-none, value-token}
+use Rattle.resinfo.specs.declared.parts.MethodVersion.{MethodVersion}
+use Rattle.resinfo.specs.declared.parts.Method.{Method}
+use Rattle.resinfo.specs.declared.parts.Method.the-variants as method
+use Rattle.resinfo.specs.declared.parts.Reason.{Reason}
+use Rattle.resinfo.specs.declared.parts.Reason.the-variants.{Stated, Absent}
+use Rattle.resinfo.specs.declared.parts.Label.{Label}
+use Rattle.resinfo.specs.declared.parts.Label.the-variants as label
+use Rattle.resinfo.specs.Results.{next}
+use Rattle.resinfo.specs.Parts.{marked, reasonWord, behind, unversioned, methodVersionAt, resultAt, methodAt, statedAs, reasonAt, namesAt, labelAt}
+use Rattle.resinfo.proofs.Marks.{next-inside, marked-yes, marked-no, behind-none, behind-some}
+
+pub marked-fits : (c : ℕ) → Fits (marked c)
+marked-fits c xs = go (next c (drop (space xs) xs)) refl
+  where
+    go : (t : Bool) → next c (drop (space xs) xs) ≡ t → marked c xs ≤ length xs
+    go true h =
+        omega (arith, marked-yes c xs h, next-inside c xs (space xs) h, space-fits (drop (space xs + 1) xs), length-drop (space xs + 1) xs)
+    go false h = omega (arith, marked-no c xs h)
+
+-- what holds where nothing is taken, and behind what is taken, holds
+all-behind : {A : Type 0} (P : A → Type 0) (f : Reader) (s : List ℕ) (at : ℕ) (z : A) (k : ℕ → A) → P z
+    → ((e : ℕ) → e ≡ at + f (drop at s) → at < e → P (k e)) → P (behind f s at z k)
+all-behind P f s at z k none some = go (f (drop at s)) refl
+  where
+    go : (n : ℕ) → f (drop at s) ≡ n → P (behind f s at z k)
+    go zero i = let b : behind f s at z k ≡ z = behind-none f s at at (omega arith) z k refl in rw b none
+    go (suc n) i =
+        let b : behind f s at z k ≡ k (at + suc n) = behind-some f s at (at + suc n) (omega arith) z k (λ j. omega arith) in
+        rw b (some (at + suc n) (omega arith) (omega arith))
+
+-- the place behind what is taken is inside
+ends-inside : (f : Reader) → Fits f → (s : List ℕ) (at e : ℕ) → e ≡ at + f (drop at s) → at < e → e ≤ length s
+ends-inside f F s at e q l = omega (arith, F (drop at s), length-drop at s)
+
+-- ==== method and result
+
+version-onward : (s : List ℕ) (at : ℕ) → at ≤ methodVersionAt s at .end
+unfolding methodVersionAt
+version-onward s at =
+    all-behind Onward (marked 47) s at (unversioned at) _ (omega arith)
+    (λ a q l. all-behind Onward digits s a (unversioned at) _ (omega arith) (λ e p m. omega arith))
+  where
+    Onward : MethodVersion → Type 0
+    Onward v = at ≤ v .end
+
+-- a method from a up to e and a result from f up to g, found at a place
+pub record MethodPlaces (s : List ℕ) (at a e f g : ℕ) : Type 0 where
+  pub start : a ≡ at
+  pub method : a < e
+  pub after : e < f
+  pub result : f < g
+  pub inside : g ≤ length s
+
+abbrev MethodStands : List ℕ → ℕ → Method → Type 0
+MethodStands s at (method.Read a e o f g) = MethodPlaces s at a e f g
+MethodStands s at method.Missing = Unit
+
+module _ (s : List ℕ) (at : ℕ) where
+  method-stands : MethodStands s at (methodAt s at)
+  unfolding methodAt resultAt
+  method-stands =
+      all-behind (MethodStands s at) keyword s at method.Missing _ tt
+      (λ e p m. all-behind (MethodStands s at) (marked 61) s (methodVersionAt s e .end) method.Missing _ tt
+      (λ f q n. all-behind (MethodStands s at) keyword s f method.Missing _ tt
+      (λ g r l. record {
+        start = refl;
+        method = m;
+        after = omega (arith, version-onward s e);
+        result = l;
+        inside = ends-inside keyword keyword-fits s f g r l;
+      })))
+
+  pub method-places : (a e : ℕ) (o : Bool) (f g : ℕ) → method.Read a e o f g ≡ methodAt s at → MethodPlaces s at a e f g
+  method-places a e o f g h = subst (λ (m : Method). MethodStands s at m) (sym h) method-stands
+
+-- ==== the reason
+
+-- a value from a up to e, found behind a place
+pub record ReasonPlaces (s : List ℕ) (at a e : ℕ) : Type 0 where
+  pub after : at < a
+  pub value : a < e
+  pub inside : e ≤ length s
+
+abbrev ReasonStands : List ℕ → ℕ → Reason → Type 0
+ReasonStands s at (Stated a e q) = ReasonPlaces s at a e
+ReasonStands s at Absent = Unit
+
+module _ (s : List ℕ) (at : ℕ) where
+  value-stands : (v : ℕ) → at < v → ReasonStands s at (statedAs (valueAt s v))
+  value-stands v l = go (eqb (getD (drop v s) 0 0) 34) refl
+    where
+      quote : eqb (getD (drop v s) 0 0) 34 ≡ true → (n : ℕ) → quoted (drop v s) ≡ n → ReasonStands s at (statedAs (valueAt s v))
+      quote t zero z = rw (← value-unclosed s v true (sym t) refl v (omega arith) refl) tt
+      quote t (suc n) z =
+          rw (← value-quoted s v true (sym t) refl (v + suc n) (omega arith) (λ i. omega arith))
+          (record { after = l; value = omega arith; inside = ends-inside quoted quoted-fits s v (v + suc n) (omega arith) (omega arith) })
+
+      bare : eqb (getD (drop v s) 0 0) 34 ≡ false → (n : ℕ) → token (drop v s) ≡ n → ReasonStands s at (statedAs (valueAt s v))
+      bare t zero z = rw (← value-none s v false (sym t) refl v (omega arith) refl) tt
+      bare t (suc n) z =
+          rw (← value-token s v false (sym t) refl (v + suc n) (omega arith) (λ i. omega arith))
+          (record { after = l; value = omega arith; inside = ends-inside token (run-fits (inClass class.Token)) s v (v + suc n) (omega arith) (omega arith) })
+
+      go : (t : Bool) → eqb (getD (drop v s) 0 0) 34 ≡ t → ReasonStands s at (statedAs (valueAt s v))
+      go true t = quote t (quoted (drop v s)) refl
+      go false t = bare t (token (drop v s)) refl
+
+  reason-stands : ReasonStands s at (reasonAt s at)
+  unfolding reasonAt
+  reason-stands =
+      all-behind (ReasonStands s at) space s at Absent _ tt
+      (λ a p m. all-behind (ReasonStands s at) reasonWord s a Absent _ tt
+      (λ e q n. all-behind (ReasonStands s at) (marked 61) s e Absent _ tt (λ v r l. value-stands v (omega arith))))
+
+  pub reason-places : (a e : ℕ) (q : Bool) → Stated a e q ≡ reasonAt s at → ReasonPlaces s at a e
+  reason-places a e q h = subst (λ (m : Reason). ReasonStands s at m) (sym h) reason-stands
+
+-- ==== what stands before a property value
+
+-- a ptype from a up to e, a property from b up to f, and the value's place, found behind a place
+pub record LabelPlaces (s : List ℕ) (at a e b f v : ℕ) : Type 0 where
+  pub after : at < a
+  pub ptype : a < e
+  pub dot : e < b
+  pub property : b < f
+  pub equals : f < v
+  pub inside : v ≤ length s
+
+abbrev LabelStands : List ℕ → ℕ → Label → Type 0
+LabelStands s at (label.Read a e b f v) = LabelPlaces s at a e b f v
+LabelStands s at label.Missing = Unit
+
+module _ (s : List ℕ) (at : ℕ) where
+  label-stands : LabelStands s at (labelAt s at)
+  unfolding labelAt namesAt
+  label-stands =
+      all-behind (LabelStands s at) space s at label.Missing _ tt
+      (λ a p i. all-behind (LabelStands s at) keyword s a label.Missing _ tt
+      (λ e q j. all-behind (LabelStands s at) (marked 46) s e label.Missing _ tt
+      (λ b r k. all-behind (LabelStands s at) keyword s b label.Missing _ tt
+      (λ f t l. all-behind (LabelStands s at) (marked 61) s f label.Missing _ tt
+      (λ v u m. record { after = i; ptype = j; dot = k; property = l; equals = m; inside = ends-inside (marked 61) (marked-fits 61) s f v u m })))))
+
+  pub label-places : (a e b f v : ℕ) → label.Read a e b f v ≡ labelAt s at → LabelPlaces s at a e b f v
+  label-places a e b f v h = subst (λ (m : Label). LabelStands s at m) (sym h) label-stands

@@ -1,0 +1,24 @@
+-- `resinfo::parts::method_version_at` meets its contract: each way through the code is a case of the definition. Assumes nothing.
+use Rattle.resinfo.proofs.Methods.{version-no-slash, version-no-digits, version-stated}
+use borrow.Author.Needs.{needs}
+use Rattle.resinfo.proofs.parts.method_version_at.Statement.{statement}
+use Rattle.resinfo.proofs.parts.method_version_at.Tie as tie
+
+mark-end-requires : tie.Need-mark-end-requires
+mark-end-requires c κs = search needs
+
+returns : tie.Need-returns
+returns c = search version-no-slash
+
+digits-at-requires : tie.Need-digits-at-requires
+digits-at-requires c κs = search needs
+
+returns-2 : tie.Need-returns-2
+returns-2 c = search version-no-digits
+
+returns-3 : tie.Need-returns-3
+returns-3 c = search version-stated
+
+pub method-version-at-spec : {M : Type 1} → statement M
+method-version-at-spec =
+    tie.close (tie.spec mark-end-requires returns digits-at-requires returns-2 returns-3)

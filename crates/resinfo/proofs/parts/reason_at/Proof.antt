@@ -1,0 +1,46 @@
+-- `resinfo::parts::reason_at` meets its contract: each way through the code is a case of the definition. Assumes nothing.
+use Rattle.resinfo.proofs.Reasons.{reason-no-space, reason-no-word, reason-no-equals, reason-value}
+use borrow.Author.Needs.{needs}
+use Rattle.resinfo.proofs.parts.reason_at.Statement.{statement}
+use Rattle.resinfo.proofs.parts.reason_at.Tie as tie
+
+space-end-requires : tie.Need-space-end-requires
+space-end-requires c κs = search needs
+
+returns : tie.Need-returns
+returns c = search reason-no-space
+
+reason-word-end-requires : tie.Need-reason-word-end-requires
+reason-word-end-requires c κs = search needs
+
+returns-2 : tie.Need-returns-2
+returns-2 c = search reason-no-word
+
+mark-end-requires : tie.Need-mark-end-requires
+mark-end-requires c κs = search needs
+
+returns-3 : tie.Need-returns-3
+returns-3 c = search reason-no-equals
+
+value-at-requires : tie.Need-value-at-requires
+value-at-requires c κs = search needs
+
+stated-as-requires : tie.Need-stated-as-requires
+stated-as-requires c κs = search needs
+
+returns-4 : tie.Need-returns-4
+returns-4 c = search reason-value
+
+pub reason-at-spec : {M : Type 1} → statement M
+reason-at-spec =
+    tie.close
+    (tie.spec
+    space-end-requires
+    returns
+    reason-word-end-requires
+    returns-2
+    mark-end-requires
+    returns-3
+    value-at-requires
+    stated-as-requires
+    returns-4)

@@ -1,0 +1,123 @@
+-- What the code's answers on the parts of a result say: the parts by their places, and the texts that stand there.
+-- Assumes nothing: these are definitions.
+use Prim.Native.Char.{code}
+use Prim.Native.Nat.{ℕ, zero, suc, _+_}
+use mathlib.Core.Bool.{Bool, true, false}
+use mathlib.Core.List.{List}
+use lib.ListN.{drop}
+use Rattle.reading.specs.Texts.{bytes, same}
+use Rattle.reading.specs.Readers.{Reader, passing}
+use Rattle.reading.specs.Parsers.{Got, nothing, got, Parser, _>>=_, _>>_, give}
+use Rattle.lexis.specs.declared.Value.{Value}
+use Rattle.lexis.specs.declared.Value.the-variants.{Token, Quoted, Nothing}
+use Rattle.lexis.specs.Bytes.{alike}
+use Rattle.lexis.specs.Pieces.{space, keyword, digits, isOne}
+use Rattle.lexis.specs.Words.{quotedText, keywordText, gap, readKeyword}
+use Rattle.lexis.specs.Answers.{valueAt}
+use Rattle.resinfo.specs.declared.parts.MethodVersion.{MethodVersion}
+use Rattle.resinfo.specs.declared.parts.Method.{Method}
+use Rattle.resinfo.specs.declared.parts.Method.the-variants as method
+use Rattle.resinfo.specs.declared.parts.Reason.{Reason}
+use Rattle.resinfo.specs.declared.parts.Reason.the-variants.{Stated, Absent}
+use Rattle.resinfo.specs.declared.parts.Label.{Label}
+use Rattle.resinfo.specs.declared.parts.Label.the-variants as label
+use Rattle.resinfo.specs.Results.{Methodspec, mark, next}
+use Rattle.resinfo.specs.Values.{span}
+
+-- ==== readers
+
+-- a mark: space, the byte and space; nothing where the byte is not there
+unfoldable pub marked : ℕ → Reader
+marked c xs = elim (next c (drop (space xs) xs)) [ true ↦ space xs + 1 + space (drop (space xs + 1) xs) | false ↦ 0 ]
+
+-- the word reason, in any case
+abbrev pub reasonWord : Reader
+reasonWord = passing (λ k. alike k (bytes "reason")) keyword
+
+-- what is said of the place behind what a reader takes at a place; z where it takes nothing
+unfoldable pub behind : {A : Type 0} → Reader → List ℕ → ℕ → A → (ℕ → A) → A
+behind f s at z k = elim (f (drop at s)) [ zero ↦ z | suc n ↦ k (at + suc n) ]
+
+-- ==== method, version and result
+
+-- absent means 1
+abbrev pub unversioned : ℕ → MethodVersion
+unversioned at = record { end = at; one = true }
+
+-- "/" and a digit run, if they can be read: the place after it, and whether its number is 1
+unfoldable pub methodVersionAt : List ℕ → ℕ → MethodVersion
+methodVersionAt s at =
+    behind (marked (code "/")) s at (unversioned at)
+    (λ a. behind digits s a (unversioned at) (λ e. record { end = e; one = isOne (drop a s) }))
+
+-- "=" at a place and a result keyword, behind a method from a up to e
+unfoldable pub resultAt : List ℕ → ℕ → ℕ → MethodVersion → Method
+resultAt s a e v =
+    behind (marked (code "=")) s (v .end) method.Missing (λ f. behind keyword s f method.Missing (λ g. method.Read a e (v .one) f g))
+
+unfoldable pub methodAt : List ℕ → ℕ → Method
+methodAt s at = behind keyword s at method.Missing (λ e. resultAt s at e (methodVersionAt s e))
+
+-- what is told of a method, its version and its result: of the version only whether it is 1
+pub record Told : Type 0 where
+  pub method : List ℕ
+  pub one : Bool
+  pub result : List ℕ
+
+abbrev pub told : Got Methodspec → Got Told
+told nothing = nothing
+told (got m n) = got (record { method = m .method; one = same (m .version) (bytes "1"); result = m .result }) n
+
+-- the texts of a method and its result that were found, and the place after them
+abbrev pub methodGot : List ℕ → Method → Got Told
+methodGot s (method.Read a e o f g) = got (record { method = keywordText (span s a e); one = o; result = keywordText (span s f g) }) g
+methodGot s method.Missing = nothing
+
+-- ==== the reason
+
+-- a value is a reason as it stands, quoted or not
+abbrev pub statedAs : Value → Reason
+statedAs (Token a e) = Stated a e false
+statedAs (Quoted a e) = Stated a e true
+statedAs Nothing = Absent
+
+-- after non-empty space, reason "=" value
+unfoldable pub reasonAt : List ℕ → ℕ → Reason
+reasonAt s at = behind space s at Absent (λ a. behind reasonWord s a Absent (λ e. behind (marked (code "=")) s e Absent (λ v. statedAs (valueAt s v))))
+
+-- the text of a reason that was found, and the place after it
+abbrev pub reasonGot : List ℕ → Reason → Got (List ℕ)
+reasonGot s (Stated a e true) = got (quotedText (drop a s)) e
+reasonGot s (Stated a e false) = got (span s a e) e
+reasonGot s Absent = nothing
+
+-- ==== what stands before a property value
+
+-- ptype and property (RFC 8601: propspec without its pvalue)
+pub record Names : Type 0 where
+  pub ptype : List ℕ
+  pub property : List ℕ
+
+-- after non-empty space: ptype "." property "="
+unfoldable pub names : Parser Names
+names = do
+  gap
+  t ← readKeyword
+  mark (code ".")
+  p ← readKeyword
+  mark (code "=")
+  give (record { ptype = t; property = p })
+
+-- "." at a place, a property and "=", behind a ptype from a up to e
+unfoldable pub namesAt : List ℕ → ℕ → ℕ → Label
+namesAt s a e =
+    behind (marked (code ".")) s e label.Missing
+    (λ b. behind keyword s b label.Missing (λ f. behind (marked (code "=")) s f label.Missing (λ v. label.Read a e b f v)))
+
+unfoldable pub labelAt : List ℕ → ℕ → Label
+labelAt s at = behind space s at label.Missing (λ a. behind keyword s a label.Missing (λ e. namesAt s a e))
+
+-- the texts of ptype and property that were found, and the place of the value
+abbrev pub labelGot : List ℕ → Label → Got Names
+labelGot s (label.Read a e b f v) = got (record { ptype = keywordText (span s a e); property = keywordText (span s b f) }) v
+labelGot s label.Missing = nothing

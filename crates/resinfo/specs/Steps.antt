@@ -1,0 +1,47 @@
+-- What the step reader answers: what stands behind a method, a reason or a property. Assumes nothing: these are definitions.
+use Prim.Native.Char.{code}
+use Prim.Native.Nat.{ℕ, _+_}
+use mathlib.Core.Bool.{Bool, true, false}
+use mathlib.Core.List.{List}
+use lib.Dec.{eqb}
+use lib.ListN.{drop}
+use Rattle.reading.specs.Texts.{follows}
+use Rattle.reading.specs.Parsers.{Got, nothing, got}
+use Rattle.lexis.specs.Pieces.{space}
+use Rattle.lexis.specs.Words.{keywordText}
+use Rattle.resinfo.specs.declared.Step.{Step}
+use Rattle.resinfo.specs.declared.Step.the-variants as step
+use Rattle.resinfo.specs.declared.parts.Label.{Label}
+use Rattle.resinfo.specs.declared.parts.Label.the-variants as label
+use Rattle.resinfo.specs.declared.value.Found.{Found}
+use Rattle.resinfo.specs.declared.value.Found.the-variants as found
+use Rattle.resinfo.specs.Results.{Property}
+use Rattle.resinfo.specs.Parts.{labelAt}
+use Rattle.resinfo.specs.Values.{span, valueOf, valueAt}
+
+-- after the longest space, ";" or the end comes next
+unfoldable pub closes : List ℕ → Bool
+closes xs = follows (λ b. eqb b (code ";")) (drop (space xs) xs)
+
+-- a result may end here, or nothing that is allowed stands here
+abbrev pub endOf : Bool → Step
+endOf true = step.Done
+endOf false = step.Refused
+
+-- a property whose names stand at these places, with the value that was found behind them
+abbrev pub propertyOf : ℕ → ℕ → ℕ → ℕ → Found → Step
+propertyOf a e b f (found.Read v x) = step.Property a e b f v x
+propertyOf a e b f found.Refused = step.Refused
+
+abbrev pub stepOf : List ℕ → ℕ → Label → Step
+stepOf s at (label.Read a e b f v) = propertyOf a e b f (valueAt s v)
+stepOf s at label.Missing = endOf (closes (drop at s))
+
+abbrev pub stepAt : List ℕ → ℕ → Step
+stepAt s at = stepOf s at (labelAt s at)
+
+-- a property that was found, and the place after it
+abbrev pub propertyGot : List ℕ → Step → Got Property
+propertyGot s (step.Property a e b f v x) = got (record { ptype = keywordText (span s a e); property = keywordText (span s b f); value = valueOf s v }) x
+propertyGot s step.Done = nothing
+propertyGot s step.Refused = nothing

@@ -1,0 +1,200 @@
+// The parts of a result other than its property values, read at a place: a mark between parts, the method with its version and its
+// result, a reason, and what stands before a property value.
+//
+// Any place may be asked for, also past the end. Nothing is refused here: what it means that a part is missing is the caller's to say.
+use lexis::Value;
+ghost use mathlib.Core.Path.{_≡_};
+ghost use Prim.Native.Nat.{_+_};
+ghost use lib.ListN.{drop};
+ghost use Rattle.resinfo.specs.Results.{next};
+ghost use Rattle.resinfo.specs.Parts.{marked, reasonWord, methodVersionAt, methodAt, statedAs, reasonAt, labelAt};
+
+// Whether a byte comes next. At the end none does.
+fn comes_next(s: &[u8], at: usize, b: u8) -> bool
+    ensures { λ r. ⌜ r ≡ next b (drop at (now (s .entry))) ⌝ }
+{
+    if at < s.len() {
+        return s[at] == b;
+    }
+    false
+}
+
+// The place after a byte between parts, with the space on both sides of it, and the place itself where there is no such byte.
+pub fn mark_end(s: &[u8], at: usize, b: u8) -> usize
+    ensures { λ r. ⌜ r ≡ at + marked b (drop at (now (s .entry))) ⌝ }
+{
+    let a = lexis::space_end(s, at);
+    if comes_next(s, a, b) {
+        return lexis::space_end(s, a + 1);
+    }
+    at
+}
+
+// The version of a method: the place after it, and whether its number is 1.
+struct MethodVersion {
+    end: usize,
+    one: bool,
+}
+
+// The version of a method that ends at a place. Where "/" and a digit run can't be read nothing is taken, and absent means 1.
+fn method_version_at(s: &[u8], at: usize) -> MethodVersion
+    ensures { λ r. ⌜ r ≡ methodVersionAt (now (s .entry)) at ⌝ }
+{
+    let a = mark_end(s, at, b'/');
+    if a == at {
+        return MethodVersion { end: at, one: true };
+    }
+    let d = lexis::digits_at(s, a);
+    if d.end == a {
+        return MethodVersion { end: at, one: true };
+    }
+    MethodVersion {
+        end: d.end,
+        one: d.one,
+    }
+}
+
+// A method from `start` up to `end`, whether its version is 1, and its result from `result_start` up to `result_end`.
+pub enum Method {
+    Read {
+        start: usize,
+        end: usize,
+        one: bool,
+        result_start: usize,
+        result_end: usize,
+    },
+    Missing,
+}
+
+// The method, its version and its result at a place.
+pub fn method_at(s: &[u8], at: usize) -> Method
+    ensures { λ r. ⌜ r ≡ methodAt (now (s .entry)) at ⌝ }
+{
+    let end = lexis::keyword_end(s, at);
+    if end == at {
+        return Method::Missing;
+    }
+    let version = method_version_at(s, end);
+    let result_start = mark_end(s, version.end, b'=');
+    if result_start == version.end {
+        return Method::Missing;
+    }
+    let result_end = lexis::keyword_end(s, result_start);
+    if result_end == result_start {
+        return Method::Missing;
+    }
+    Method::Read {
+        start: at,
+        end,
+        one: version.one,
+        result_start,
+        result_end,
+    }
+}
+
+// Where the value of a reason stands: from `start` up to `end`, with its quotes where it is quoted.
+pub enum Reason {
+    Stated {
+        start: usize,
+        end: usize,
+        quoted: bool,
+    },
+    Absent,
+}
+
+// The end of the word reason, in any case.
+fn reason_word_end(s: &[u8], at: usize) -> usize
+    ensures { λ r. ⌜ r ≡ at + reasonWord (drop at (now (s .entry))) ⌝ }
+{
+    let e = lexis::keyword_end(s, at);
+    if e == at {
+        return at;
+    }
+    if lexis::text::same_text(&s[at..e], b"reason") {
+        return e;
+    }
+    at
+}
+
+// A value is a reason as it stands.
+fn stated_as(v: Value) -> Reason
+    ensures { λ r. ⌜ r ≡ statedAs v ⌝ }
+{
+    match v {
+        Value::Token { start, end } => Reason::Stated {
+            start,
+            end,
+            quoted: false,
+        },
+        Value::Quoted { start, end } => Reason::Stated {
+            start,
+            end,
+            quoted: true,
+        },
+        Value::Nothing => Reason::Absent,
+    }
+}
+
+// The reason behind a result that ends at a place.
+pub fn reason_at(s: &[u8], at: usize) -> Reason
+    ensures { λ r. ⌜ r ≡ reasonAt (now (s .entry)) at ⌝ }
+{
+    let word = lexis::space_end(s, at);
+    if word == at {
+        return Reason::Absent;
+    }
+    let word_end = reason_word_end(s, word);
+    if word_end == word {
+        return Reason::Absent;
+    }
+    let value = mark_end(s, word_end, b'=');
+    if value == word_end {
+        return Reason::Absent;
+    }
+    stated_as(lexis::value_at(s, value))
+}
+
+// A ptype from `type_start` up to `type_end`, a property from `name_start` up to `name_end`, and the place of the property value.
+pub enum Label {
+    Read {
+        type_start: usize,
+        type_end: usize,
+        name_start: usize,
+        name_end: usize,
+        value: usize,
+    },
+    Missing,
+}
+
+// What stands before a property value, behind a part that ends at a place.
+pub fn label_at(s: &[u8], at: usize) -> Label
+    ensures { λ r. ⌜ r ≡ labelAt (now (s .entry)) at ⌝ }
+{
+    let type_start = lexis::space_end(s, at);
+    if type_start == at {
+        return Label::Missing;
+    }
+    let type_end = lexis::keyword_end(s, type_start);
+    if type_end == type_start {
+        return Label::Missing;
+    }
+    let name_start = mark_end(s, type_end, b'.');
+    if name_start == type_end {
+        return Label::Missing;
+    }
+    let name_end = lexis::keyword_end(s, name_start);
+    if name_end == name_start {
+        return Label::Missing;
+    }
+    let value = mark_end(s, name_end, b'=');
+    if value == name_end {
+        return Label::Missing;
+    }
+    Label::Read {
+        type_start,
+        type_end,
+        name_start,
+        name_end,
+        value,
+    }
+}
