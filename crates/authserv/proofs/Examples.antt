@@ -1,13 +1,12 @@
 -- Identifiers and header versions at worked examples, computed. Assumes nothing.
-use Prim.Native.Nat.{ℕ, zero, suc}
-use mathlib.Core.Path.{_≡_, refl}
+use mathlib.Core.Path.{refl}
 use mathlib.Core.Bool.{true, false}
-use mathlib.Core.List.{List, [], _∷_, _++_}
-use mathlib.Core.Option.{Option, none, some}
+use mathlib.Core.List.{[], _∷_}
+use mathlib.Core.Option.{none, some}
 use Rattle.reading.specs.Texts.{bytes, within, oneOf, same, follows}
 use Rattle.reading.specs.Readers.{run, many, choose, between, passing, lasts}
-use Rattle.reading.specs.Parsers.{Got, nothing, got, after, _>>=_, give, when, ahead, skipping, text, pass, optional}
-use Rattle.reading.proofs.Cases.{Case, case, Says}
+use Rattle.reading.specs.Parsers.{nothing, got, after, _>>=_, give, when, ahead, skipping, text, pass, optional}
+use Rattle.reading.proofs.Cases.{case, Says}
 use Rattle.lexis.specs.Bytes.{inClass, letter, lower, alike}
 use Rattle.lexis.specs.Pieces.{pair, fold, item, comment, leading, decimal}
 use Rattle.lexis.specs.Words.{quotedText, valueText, counted, readDigits}

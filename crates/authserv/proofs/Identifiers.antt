@@ -10,15 +10,14 @@ use lib.Dec.{eqb}
 use lib.ListN.{length, getD, take, drop, length-drop}
 use borrow.Author.Tests.{eq-eqb, ne-eqb, eqb-true, eqb-false}
 use Rattle.reading.specs.Texts.{follows}
-use Rattle.reading.specs.Readers.{choose}
-use Rattle.reading.specs.Parsers.{Got, nothing, got, _>>=_, _>>_, give, ahead, skipping, text}
+use Rattle.reading.specs.Parsers.{Got, nothing, got, _>>=_, _>>_, give, ahead, text}
 use Rattle.reading.specs.Places.{from}
 use Rattle.reading.proofs.Readers.{choose-yes, choose-no, run-fits}
 use Rattle.reading.proofs.Places.{took, none-at, goes-on, stops, gives, skipping-at, text-at, text-none, ahead-at, ahead-none}
 use Rattle.lexis.specs.declared.Class.the-variants.{Delimiter}
 use Rattle.lexis.specs.Bytes.{inClass}
 use Rattle.lexis.specs.Pieces.{space, quoted}
-use Rattle.lexis.specs.Words.{quotedText, valueText, skip}
+use Rattle.lexis.specs.Words.{valueText, skip}
 use Rattle.lexis.proofs.Pieces.{space-fits, quoted-fits}
 use Rattle.lexis.proofs.Values.{quoted-text, quote-text, token-text}
 use Rattle.authserv.specs.declared.Identifier.{Identifier}

@@ -2,13 +2,12 @@
 use Prim.Native.Nat.{ℕ, zero, suc, _+_, _-_, _≤_, _<_}
 use native.Mathlib.Omega.{arith}
 use mathlib.Core.Path.{_≡_, refl, sym, ap, _∙_}
-use mathlib.Core.Bool.{Bool, true, false, _||_}
+use mathlib.Core.Bool.{Bool, true, false}
 use mathlib.Core.List.{List, [], _∷_}
 use lib.Dec.{leb}
 use lib.ListN.{length, drop, take, length-take}
 use Rattle.sequences.specs.Stored.{Put}
-use Rattle.sequences.proofs.Splices.{put-front, put-long}
-use Rattle.reading.specs.Parsers.{nothing, got}
+use Rattle.sequences.proofs.Splices.{put-front}
 use Rattle.reading.specs.Walks.{walk}
 use Rattle.lexis.specs.Words.{quotedText}
 use Rattle.lexis.proofs.Texts.{alike-long}
@@ -16,7 +15,6 @@ use Rattle.block.specs.declared.Listed.the-variants.{Entry, End, Bad}
 use Rattle.block.specs.OwnList.{entryLimit, longest, entry, entryAt, ownList}
 use Rattle.block.specs.Steps.{listedFrom}
 use Rattle.block.proofs.EntrySteps.{RestEntries, entries-end, entries-bad, entries-next, entry-is}
-use Rattle.authserv.specs.declared.Identifier.{Identifier}
 use Rattle.authserv.specs.declared.Identifier.the-variants as identifier
 use Rattle.authserv.specs.declared.own.Own.{Own}
 use Rattle.authserv.specs.declared.own.Own.the-variants as own

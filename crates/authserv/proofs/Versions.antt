@@ -2,12 +2,11 @@
 use Prim.Native.Nat.{ℕ, zero, suc, _+_, _-_}
 use native.Mathlib.Omega.{arith}
 use mathlib.Core.Path.{_≡_, refl, sym, ap, _∙_}
-use mathlib.Core.Bool.{Bool, true, false}
 use mathlib.Core.List.{List}
-use mathlib.Core.Option.{Option, none, some}
+use mathlib.Core.Option.{some}
 use lib.ListN.{take, drop}
 use lib.Seq.{drop-drop}
-use Rattle.reading.specs.Parsers.{Got, nothing, got, _>>=_, _>>_, give, text, pass, optional}
+use Rattle.reading.specs.Parsers.{nothing, got, _>>=_, _>>_, text, optional}
 use Rattle.reading.specs.Places.{from}
 use Rattle.reading.proofs.Places.{goes-on, stops, gives, text-at, text-none, pass-at, pass-none, one-more, none-there}
 use Rattle.lexis.specs.declared.Digits.{Digits}
@@ -15,7 +14,6 @@ use Rattle.lexis.specs.Pieces.{space, digits, leading, isOne}
 use Rattle.lexis.specs.Words.{counted, gap, readDigits}
 use Rattle.lexis.specs.Answers.{digitsAt}
 use Rattle.lexis.proofs.Numbers.{counted-text}
-use Rattle.authserv.specs.declared.Version.{Version}
 use Rattle.authserv.specs.declared.Version.the-variants.{Absent, Stated}
 use Rattle.authserv.specs.Version.{stated}
 use Rattle.authserv.specs.Answers.{versionFrom, versionAt, versionGot}

@@ -1,10 +1,10 @@
 -- What it is for a field to stand by itself. Assumes nothing: these are definitions.
 use Prim.Native.Nat.{ℕ, _+_, _≤_, _<_}
 use mathlib.Core.Path.{_≡_}
-use mathlib.Core.Bool.{Bool, true, false}
+use mathlib.Core.Bool.{true, false}
 use mathlib.Core.List.{List, [], _∷_, _++_}
 use lib.ListN.{length, getD}
-use Rattle.reading.specs.Walks.{Met, item}
+use Rattle.reading.specs.Walks.{item}
 use Rattle.lexis.specs.declared.Class.the-variants.{Blank}
 use Rattle.lexis.specs.Bytes.{inClass}
 use Rattle.block.specs.Fields.{Field, fieldLimit, fieldAt}

@@ -6,7 +6,7 @@ use mathlib.Core.List.{List, _++_}
 use lib.ListN.{length, drop, getD}
 use Rattle.reading.specs.Texts.{starts, follows}
 use Rattle.reading.specs.Readers.{Reader}
-use Rattle.reading.specs.Parsers.{Got, got, Parser}
+use Rattle.reading.specs.Parsers.{got, Parser}
 
 -- ==== bounds
 

@@ -1,12 +1,12 @@
 -- One result at worked examples, computed: whether it reads, how much it takes, and whether it is understood. Assumes nothing.
 use Prim.Native.Nat.{ℕ}
-use mathlib.Core.Path.{_≡_, refl}
+use mathlib.Core.Path.{refl}
 use mathlib.Core.Bool.{Bool, true, false}
 use mathlib.Core.List.{List, [], _∷_}
 use Rattle.reading.specs.Texts.{bytes}
 use Rattle.reading.specs.Parsers.{Got, nothing, got}
 use Rattle.reading.proofs.Cases.{case, Says}
-use Rattle.resinfo.specs.Results.{Kind, Token, Quoted, Mailbox, AtDomain, Value, Property, Methodspec, Result, propertyValue, result}
+use Rattle.resinfo.specs.Results.{Kind, Token, Quoted, Mailbox, AtDomain, Value, propertyValue, result}
 use Rattle.resinfo.specs.Table.{understood}
 use Rattle.resinfo.proofs.Opened.{opened}
 

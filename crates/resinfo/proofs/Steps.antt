@@ -10,7 +10,7 @@ use lib.Dec.{eqb}
 use lib.ListN.{length, getD, drop}
 use lib.Seq.{drop-drop}
 use Rattle.reading.specs.Texts.{follows}
-use Rattle.reading.specs.Parsers.{Got, nothing, got}
+use Rattle.reading.specs.Parsers.{nothing, got}
 use Rattle.reading.specs.Places.{from}
 use Rattle.reading.proofs.Texts.{follows-at, follows-end}
 use Rattle.reading.proofs.Places.{goes-on, stops, gives}

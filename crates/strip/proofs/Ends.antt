@@ -1,23 +1,22 @@
 -- The answers of the stripper, one law for each way out of the code. Assumes nothing.
-use Prim.Native.Nat.{ℕ, zero, suc, _+_, _-_, _≤_, _<_}
+use Prim.Native.Nat.{ℕ, zero, suc, _-_, _≤_, _<_}
 use native.Mathlib.Omega.{arith}
 use mathlib.Core.Path.{_≡_, refl, sym, ap, _∙_}
 use mathlib.Core.Bool.{Bool, true, false}
-use mathlib.Core.List.{List, [], _∷_, _++_}
-use borrow.Author.Tests.{lt-ltb, le-ltb, ltb-false}
+use mathlib.Core.List.{List, [], _∷_}
+use borrow.Author.Tests.{lt-ltb, ltb-false}
 use lib.Dec.{ltb, leb}
-use lib.ListN.{length, drop}
+use lib.ListN.{length}
 use Rattle.sequences.proofs.Splices.{wrote-count, wrote-front}
 use Rattle.reading.specs.Walks.{Walked, walk}
 use Rattle.lexis.specs.Limits.{byteLimit}
-use Rattle.block.specs.declared.Checked.{Checked}
 use Rattle.block.specs.declared.Checked.the-variants.{Good, Bad}
 use Rattle.block.specs.Fields.{Field, fields, bytesOf}
 use Rattle.block.specs.OwnList.{entryLimit, entry, entryAt, ownList}
 use Rattle.block.specs.Steps.{checkedOf}
 use Rattle.block.proofs.Fields.{fields-fine, walk-back}
 use Rattle.strip.specs.declared.Stripped.{Stripped}
-use Rattle.strip.specs.Strip.{Answer, refuse, stays, gone, fitted, unless, strip}
+use Rattle.strip.specs.Strip.{refuse, stays, fitted, unless, strip}
 use Rattle.strip.specs.Answers.{Sifted, answerOf, leaves}
 use Rattle.strip.proofs.Laws.{strip-to, strip-is}
 

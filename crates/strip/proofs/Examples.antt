@@ -1,13 +1,13 @@
 -- Stripping at worked examples, computed. Assumes nothing.
 use Prim.Native.Nat.{ℕ}
 use mathlib.Core.Path.{_≡_, refl}
-use mathlib.Core.List.{List, [], _∷_, _++_}
+use mathlib.Core.List.{List, [], _∷_}
 use Rattle.reading.specs.Texts.{bytes}
-use Rattle.reading.proofs.Cases.{Case, case, Says}
+use Rattle.reading.proofs.Cases.{case, Says}
 use Rattle.block.proofs.Examples as block
 use Rattle.authserv.proofs.Examples as authserv
 use Rattle.authserv.specs.Listed.{among}
-use Rattle.strip.specs.Strip.{disowned, goes, fitted, strip, Answer}
+use Rattle.strip.specs.Strip.{disowned, goes, Answer, refuse, fitted, strip}
 
 unfoldable opened : Unit {0}
 unfolding block.opened authserv.opened among disowned goes fitted strip
@@ -30,3 +30,16 @@ sample :
     ∷ [])
 unfolding opened
 sample = refl
+
+-- refusals in their order: a bad list before a bad block, that before a room that is too short by one
+refusals :
+    strip (bytes "A") (bytes "\n") 0
+    ∷ strip (bytes "A\r\n") (bytes "a\n\n") 0
+    ∷ strip (bytes "A: b\r\nA") (bytes "a\n") 0
+    ∷ strip (bytes "A: b\r\n\r\n") (bytes "a\n") 0
+    ∷ strip (bytes "A: b\r\n") (bytes "a\n") 5
+    ∷ strip (bytes "A: b\r\n") (bytes "a\n") 6
+    ∷ []
+    ≡ refuse 5 0 ∷ refuse 5 2 ∷ refuse 2 7 ∷ refuse 3 6 ∷ refuse 6 6 ∷ says 6 0 0 (bytes "A: b\r\n") ∷ []
+unfolding opened
+refusals = refl

@@ -1,6 +1,6 @@
 -- What stripping promises beyond its contract. Each theorem is about the definition that the contract of `strip::strip` cites.
 -- Assumes nothing.
-use Prim.Native.Nat.{ℕ, zero, suc, _+_, _≤_}
+use Prim.Native.Nat.{ℕ, zero, suc, _+_}
 use native.Mathlib.Omega.{arith}
 use mathlib.Core.Path.{_≡_, refl, sym, ap, _∙_}
 use mathlib.Core.Bool.{Bool, true, false, not, _&&_, _||_}
@@ -16,9 +16,9 @@ use Rattle.block.specs.OwnList.{ownList}
 use Rattle.block.proofs.Fields.{fields-fine, those-fields, those-sum, those-again, those-none, those-yes, those-no}
 use Rattle.authserv.specs.Identifier.{identifier, sameIdentifier}
 use Rattle.authserv.specs.Listed.{among}
-use Rattle.strip.specs.Strip.{disowned, goes, gone, stays, Answer, refuse, done, fitted, unless, strip}
+use Rattle.strip.specs.Strip.{disowned, goes, gone, stays, Answer, refuse, fitted, unless, strip}
 use Rattle.strip.specs.Answers.{leaves}
-use Rattle.strip.proofs.Laws.{Sound, strip-to, strip-is, strip-sound}
+use Rattle.strip.proofs.Laws.{strip-to, strip-is, strip-sound}
 
 -- where the first answers are not given
 module _ (block list : List ℕ) (room : ℕ) where

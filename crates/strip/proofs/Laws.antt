@@ -1,18 +1,17 @@
 -- What the definition of stripping gives where nothing is refused, and what is known where it answers 0, by cases in the order of the
 -- answers. Assumes nothing.
-use Prim.Native.Nat.{ℕ, zero, suc, _+_, _≤_, _<_}
+use Prim.Native.Nat.{ℕ, zero, suc, _≤_}
 use native.Mathlib.Omega.{arith}
-use mathlib.Core.Path.{_≡_, refl, sym, ap, _∙_}
-use mathlib.Core.Bool.{Bool, true, false, not}
-use mathlib.Core.List.{List, []}
+use mathlib.Core.Path.{_≡_, refl, _∙_}
+use mathlib.Core.Bool.{Bool, true, false}
+use mathlib.Core.List.{List}
 use borrow.Author.Tests.{ltb-false, le-ltb}
 use lib.Dec.{ltb}
 use lib.ListN.{length}
-use Rattle.reading.specs.Walks.{Walked}
 use Rattle.lexis.specs.Limits.{byteLimit}
 use Rattle.block.specs.Fields.{Field, fields, bytesOf}
 use Rattle.block.specs.OwnList.{ownList}
-use Rattle.strip.specs.Strip.{goes, gone, stays, Answer, refuse, done, fitted, unless, strip}
+use Rattle.strip.specs.Strip.{gone, stays, done, fitted, unless, strip}
 
 -- what is known of a block that is stripped
 pub record Sound (block list : List ℕ) (room : ℕ) : Type 0 where

@@ -1,10 +1,10 @@
 -- The loop over the fields: what is left of the block answers as the whole, and one turn. Assumes nothing.
-use Prim.Native.Nat.{ℕ, zero, suc, _+_, _-_, _≤_, _<_, zero-le}
+use Prim.Native.Nat.{ℕ, _+_, _-_, _≤_, zero-le}
 use native.Mathlib.Nat.{zero-add}
 use native.Mathlib.Omega.{arith}
 use mathlib.Core.Path.{_≡_, refl, sym, ap, _∙_}
 use mathlib.Core.Bool.{Bool, true, false, not, _&&_}
-use mathlib.Core.List.{List, [], _∷_, _++_}
+use mathlib.Core.List.{List, [], _∷_}
 use lib.ListN.{length, drop, take, length-append}
 use Rattle.sequences.specs.Stored.{Put}
 use Rattle.sequences.proofs.Booleans.{true-not, false-not}
@@ -18,7 +18,6 @@ use Rattle.block.specs.OwnList.{ownList}
 use Rattle.block.specs.Steps.{nextFrom}
 use Rattle.block.proofs.Fields.{those-yes, those-no}
 use Rattle.block.proofs.Steps.{Rest, fieldFrom, Cut, step-field, step-end, step-refused, part-bytes, part-name, part-body}
-use Rattle.strip.specs.declared.Stripped.{Stripped}
 use Rattle.strip.specs.Strip.{disowned, goes, stays, gone}
 use Rattle.strip.specs.Answers.{Sifted}
 

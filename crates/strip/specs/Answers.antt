@@ -5,7 +5,6 @@ use mathlib.Core.Bool.{Bool, true, false}
 use mathlib.Core.List.{List, _++_}
 use lib.ListN.{length, drop}
 use Rattle.sequences.specs.Stored.{Wrote}
-use Rattle.reading.specs.Walks.{Walked}
 use Rattle.block.specs.Fields.{fields, bytesOf}
 use Rattle.block.specs.OwnList.{ownList}
 use Rattle.authserv.specs.declared.own.Own.{Own}

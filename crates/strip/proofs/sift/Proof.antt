@@ -3,7 +3,7 @@ use borrow.Author.Needs.{needs}
 use Prim.Native.Nat.{_-_}
 use mathlib.Core.Path.{_≡_, sym, _∙_}
 use lib.ListN.{length, drop}
-use Rattle.block.specs.declared.Next.the-variants.{Field, End, Refused}
+use Rattle.block.specs.declared.Next.the-variants.{Field}
 use Rattle.block.specs.Steps.{nextFrom}
 use Rattle.block.proofs.Steps.{Cut, step-field}
 use Rattle.strip.proofs.Sifting.{Sifting, sift-start, sift-end, sift-refused, sift-gone, sift-kept, bytes-long}

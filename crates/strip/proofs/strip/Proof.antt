@@ -1,4 +1,4 @@
-use mathlib.Core.Path.{_≡_, sym, _∙_}
+use mathlib.Core.Path.{sym, _∙_}
 use Rattle.strip.proofs.Ends.{answer-1, answer-5, answer-2-4, answer-6, answer-0}
 use borrow.Author.Needs.{needs}
 use Rattle.strip.proofs.strip.Statement.{statement}
