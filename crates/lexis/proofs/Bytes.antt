@@ -9,7 +9,7 @@ use borrow.Author.Tests.{eqb-true, ltb-true, ltb-false, lt-ltb, le-ltb}
 use Rattle.sequences.proofs.Booleans.{both}
 use Rattle.reading.specs.Texts.{within, oneOf}
 use Rattle.lexis.specs.declared.Class.{Class}
-use Rattle.lexis.specs.declared.Class.the-variants.{Blank, Opening, Zero, Digit, Keyword, Token, Quoted, Comment, Escaped, Name, Visible, Delimiter}
+use Rattle.lexis.specs.declared.Class.the-variants.{Blank, Opening, Zero, Digit, Keyword, Token, Quoted, Comment, Escaped, Name, Visible, Delimiter, Tag}
 use Rattle.lexis.specs.declared.Rows.{Rows}
 use Rattle.lexis.specs.Bytes.{inClass, letter}
 use Rattle.lexis.specs.Internal.{bit, bitsOf, rowsOf, wordOf}
@@ -97,6 +97,7 @@ class-zero Escaped = refl
 class-zero Name = refl
 class-zero Visible = refl
 class-zero Delimiter = refl
+class-zero Tag = refl
 
 -- ==== the bytes with which a space can start
 

@@ -6,7 +6,7 @@ use mathlib.Core.List.{List, map}
 use lib.Dec.{leb, eqb}
 use Rattle.reading.specs.Texts.{bytes, within, oneOf, same}
 use Rattle.lexis.specs.declared.Class.{Class}
-use Rattle.lexis.specs.declared.Class.the-variants.{Blank, Opening, Zero, Digit, Keyword, Token, Quoted, Comment, Escaped, Name, Visible, Delimiter}
+use Rattle.lexis.specs.declared.Class.the-variants.{Blank, Opening, Zero, Digit, Keyword, Token, Quoted, Comment, Escaped, Name, Visible, Delimiter, Tag}
 
 -- a letter
 unfoldable pub letter : ℕ → Bool
@@ -36,6 +36,8 @@ inClass Name x = within 33 126 x && not (eqb x (code ":"))
 inClass Visible x = within 33 126 x
 -- 01, Identifier and header version: one of space, tab, CR, "(" or ";"
 inClass Delimiter x = oneOf (bytes " \t\r(;") x
+-- 01, The chain: (a tag's value) 33 to 126 but ";", 128 up, and space inside: its blanks
+inClass Tag x = within 33 126 x && not (eqb x (code ";")) || leb 128 x || oneOf (bytes " \t") x
 
 -- the small letter of a capital, and any other byte itself
 unfoldable pub lower : ℕ → ℕ

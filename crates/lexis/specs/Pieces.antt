@@ -7,7 +7,7 @@ use lib.Dec.{eqb}
 use lib.ListN.{length, getD, drop}
 use Rattle.reading.specs.Readers.{Reader, run, many, choose, between, passing}
 use Rattle.lexis.specs.declared.Class.{Class}
-use Rattle.lexis.specs.declared.Class.the-variants.{Blank, Opening, Zero, Digit, Keyword, Token, Quoted, Comment, Escaped, Name, Visible, Delimiter}
+use Rattle.lexis.specs.declared.Class.the-variants.{Blank, Opening, Zero, Digit, Keyword, Token, Quoted, Comment, Escaped, Name, Visible, Delimiter, Tag}
 use Rattle.lexis.specs.Limits.{depthLimit}
 use Rattle.lexis.specs.Bytes.{inClass}
 
@@ -33,6 +33,7 @@ escapes Escaped = false
 escapes Name = false
 escapes Visible = false
 escapes Delimiter = false
+escapes Tag = false
 
 -- one byte of the class, a backslash with its byte, or a CRLF with the space or tab that follows it
 unfoldable pub item : Class → Reader

@@ -59,6 +59,7 @@ pub enum Class {
     Name,
     Visible,
     Delimiter,
+    Tag,
 }
 
 // A class: a binary digit for each byte, the lowest first, 64 bytes to a word.
@@ -90,6 +91,12 @@ fn rows_of(c: Class) -> Rows
         Class::Name => Rows(0xfbfffffe00000000, 0x7fffffffffffffff, 0x0, 0x0),
         Class::Visible => Rows(0xfffffffe00000000, 0x7fffffffffffffff, 0x0, 0x0),
         Class::Delimiter => Rows(0x800010100002200, 0x0, 0x0, 0x0),
+        Class::Tag => Rows(
+            0xf7ffffff00000200,
+            0x7fffffffffffffff,
+            0xffffffffffffffff,
+            0xffffffffffffffff,
+        ),
     }
 }
 
@@ -154,6 +161,7 @@ fn escapes(c: Class) -> bool
         Class::Name => false,
         Class::Visible => false,
         Class::Delimiter => false,
+        Class::Tag => false,
     }
 }
 
@@ -183,8 +191,8 @@ fn fold_at(s: &[u8], at: usize) -> bool
     false
 }
 
-// How many bytes the item at a place has: 0 where there is none.
-fn item_at(s: &[u8], at: usize, c: Class) -> usize
+// How many bytes the item at a place has: one byte of a class, a backslash with its byte, or a fold; 0 where there is none.
+pub fn item_at(s: &[u8], at: usize, c: Class) -> usize
     ensures { λ r. ⌜ r ≡ item c (drop at (now (s .entry))) ⌝ }
 {
     if class_at(s, at, 0, c) {

@@ -1,180 +1,343 @@
--- What stands before the results is the same whatever follows, as long as that ends it, from the laws of its parts; and a body that names
--- a header version has it in its head. Assumes nothing.
-use Prim.Native.Char.{code}
-use Prim.Native.Nat.{ℕ, suc, _+_}
+-- What stands behind the identifier of a body, by the tests that the code makes in turn: the header version, and what has to follow the
+-- head. And the text of the identifier changes nothing of what is written behind its line, so that it may be left out. Assumes nothing.
+use Prim.Native.Nat.{ℕ, zero, suc, _+_, _-_, _*_, _≤_, _<_, _^_}
 use native.Mathlib.Omega.{arith}
-use mathlib.Core.Path.{_≡_, refl, sym, ap, _∙_}
-use mathlib.Core.Bool.{false}
-use mathlib.Core.List.{List}
-use mathlib.Core.Option.{Option, some}
-use lib.ListN.{drop}
-use lib.Seq.{drop-drop}
-use Rattle.reading.specs.Parsers.{nothing, got, Parser, _>>=_, _>>_, give, ahead, text, optional}
-use Rattle.reading.specs.Locality.{Within, Any, Ends, Starts, Steady, Opens}
-use Rattle.reading.proofs.Local.{local-weaker, choose-local}
-use Rattle.reading.proofs.Sequencing.{bind-got, bind-inv, give-is, give-inv, ahead-inv, optional-some}
-use Rattle.reading.proofs.Bounds.{within-weaker, bind-within, bind-within₂, give-within, ahead-within, text-within, optional-within}
-use Rattle.reading.proofs.Openings.{bind-opens, text-opens, opens-weaker, zero-front, bind-front, optional-front}
-use Rattle.reading.proofs.Steadiness.{steady-weaker, bind-steady, then-steady, zero-steady, map-steady, give-steady, ahead-steady, text-steady, optional-steady}
-use Rattle.lexis.specs.declared.Class.the-variants.{Delimiter, Digit, Token}
+use mathlib.Core.Path.{_≡_, refl, sym, ap, _∙_, subst}
+use mathlib.Core.Bool.{Bool, true, false}
+use mathlib.Core.List.{List, [], _∷_, _++_}
+use mathlib.Core.Option.{Option, none, some}
+use borrow.Author.Tests.{eqb-true, eqb-false}
+use lib.Dec.{eqb}
+use lib.ListN.{length, getD, drop, length-append, length-drop}
+use lib.Seq.{sets, getD-drop, length-take-le}
+use Rattle.sequences.specs.Stored.{Wrote}
+use Rattle.sequences.proofs.Booleans.{cond-le}
+use Rattle.sequences.proofs.Splices.{sets-out, wrote-then, wrote-long, wrote-count}
+use Rattle.reading.specs.Texts.{within, same, follows}
+use Rattle.reading.specs.Parsers.{Got, nothing, got, optional}
+use Rattle.reading.specs.Places.{from}
+use Rattle.reading.proofs.Texts.{same-refl, same-eq}
+use Rattle.reading.proofs.Readers.{run-fits, run-narrow}
+use Rattle.reading.proofs.Places.{at-got}
+use Rattle.reading.proofs.Sequencing.{bind-got, give-is, optional-some, optional-none}
+use Rattle.lexis.specs.Limits.{byteLimit}
+use Rattle.lexis.specs.declared.Class.the-variants.{Delimiter, Digit, Zero}
 use Rattle.lexis.specs.Bytes.{inClass}
-use Rattle.lexis.specs.Pieces.{space, quoted, digits}
-use Rattle.lexis.specs.Words.{valueText, skip, gap, readDigits}
-use Rattle.lexis.proofs.Pieces.{value-fits}
-use Rattle.lexis.proofs.Locality.{quoted-local, token-local}
-use Rattle.lexis.proofs.Steadiness.{skip-within, skip-steady, gap-within, gap-steady, opensValue, value-first, digits-within, digits-opens, digits-steady}
-use Rattle.authserv.specs.Identifier.{identifierToken, identifierValue, identifier}
+use Rattle.lexis.specs.Pieces.{space, digits, zeros, leading, isOne}
+use Rattle.lexis.proofs.Numbers.{one-is}
+use Rattle.authserv.specs.declared.Identifier.the-variants.{Readable, Unreadable}
+use Rattle.authserv.specs.declared.Version.the-variants.{Absent, Stated}
+use Rattle.authserv.specs.Identifier.{identifier}
 use Rattle.authserv.specs.Version.{stated}
-use Rattle.resinfo.specs.Results.{orOne}
-use Rattle.resinfo.proofs.Opened as resinfo
-use Rattle.resinfo.proofs.Following.{Delimited, Closed, solid, delimited-ends, gap-delimited, closed-delimited, closed-gap}
-use Rattle.report.specs.Body.{Head, head}
-use Rattle.report.specs.Newer.{naming}
+use Rattle.authserv.specs.Answers.{readable, identifierFrom, identifierAt, textOf, versionFrom, versionAt, versionGot}
+use Rattle.authserv.proofs.Identifiers.{identifier-found, identifier-inside}
+use Rattle.authserv.proofs.Versions.{version-got}
+use Rattle.resinfo.specs.Results.{Result, one, orOne}
+use Rattle.resinfo.specs.Values.{span}
+use Rattle.resinfo.proofs.Methods.{one-alone}
+use Rattle.body.specs.Body.{Head, Reading, malformed, newer, noResult, results, head, resinfos, wordNone, payload, headed, reading}
+use Rattle.body.specs.Report.{line, idLine, versionLine, noneLine, lines}
+use Rattle.body.proofs.Readings.{reading-is, headed-is}
+use Rattle.report.specs.declared.Reported.{Reported}
+use Rattle.report.specs.Internal.{behindId, wholeText, refused, Behind, newerAt, headedAt, Said}
+use Rattle.body.proofs.Sizes.{id-size}
+use Rattle.report.proofs.Payloads.{Room, behind-malformed}
 
--- ==== nothing more is taken
+-- ==== header version 1, or none
 
--- the end or a delimiter, and a value
-abbrev Then : {A : Type 0} → A → Parser A
-Then a = _>>_ (ahead (inClass Delimiter)) (give a)
+abbrev named : List ℕ → List ℕ → Head
+named i v = record { identifier = i; version = v }
 
-module _ {A : Type 0} (a : A) where
-  then-zero : (xs : List ℕ) (b : A) (n : ℕ) → Then a xs ≡ got b n → n ≡ 0
-  then-zero xs b n h =
-      let v = bind-inv (ahead (inClass Delimiter)) (λ u. give a) xs b n h in
-      omega (arith, ahead-inv (inClass Delimiter) xs (v .val) (v .fst) (v .reads) .1, give-inv a (drop (v .fst) xs) b (v .snd) (v .goes) .1, v .sum)
+-- the head of a body that states no other header version, without its identifier
+abbrev First : Head
+First = named [] one
 
-  then-delimited : (xs : List ℕ) (b : A) (n : ℕ) → Then a xs ≡ got b n → Delimited xs
-  then-delimited xs b n h =
-      let v = bind-inv (ahead (inClass Delimiter)) (λ u. give a) xs b n h in
-      ahead-inv (inClass Delimiter) xs (v .val) (v .fst) (v .reads) .0
+headed-shut : (h : Head) (xs : List ℕ) → follows (inClass Delimiter) xs ≡ false → headed h xs ≡ malformed
+unfolding headed
+headed-shut h xs f = rw (headed, f)
 
-  then-within : Within 0 (Then a)
-  then-within = bind-within 0 (ahead (inClass Delimiter)) (λ u. give a) (ahead-within (inClass Delimiter)) (λ u. give-within a)
+-- the same is said, and there is room for it
+room-as : (s old : List ℕ) (to : ℕ) {x y : Reading} → x ≡ y → Room s x old to → Room s y old to
+room-as s old to e r = subst (λ (z : Reading). Room s z old to) e r
 
-  then-delimited-steady : Steady (Then a) Delimited
-  then-delimited-steady =
-      zero-steady (ahead (inClass Delimiter)) (λ u. give a) Delimited (ahead-steady (inClass Delimiter)) (λ u. give-steady a Delimited)
-      (λ u xs b n h. give-inv a xs b n h .1)
+behind-as : {x y : Reading} {old new : List ℕ} {to : ℕ} {r : Reported} → x ≡ y → Behind y old to new r → Behind x old to new r
+behind-as {x} {y} {old} {new} {to} {r} e b = subst (λ (z : Reading). Behind z old to new r) (sym e) b
 
--- ==== identifier
+module _ (s : List ℕ) (at : ℕ) (old : List ℕ) (to : ℕ) (d : Bool) (h : d ≡ follows (inClass Delimiter) (drop at s)) where
+  module _ (t : d ≡ true) where
+    first-is : headed First (drop at s) ≡ payload [] (drop at s)
+    first-is = headed-is First (drop at s) (sym h ∙ t) (same-refl one)
 
-identifier-value-solid : (xs : List ℕ) (n : ℕ) → identifierValue xs ≡ suc n → Ends space xs
-unfolding resinfo.opened
-identifier-value-solid xs n e = solid opensValue refl xs (value-first xs n e)
+    pub first-room : Room s (headed First (drop at s)) old to → Room s (payload [] (drop at s)) old to
+    first-room r = room-as s old to first-is r
 
-identifier-value-steady : Steady (text identifierValue) Delimited
-unfolding resinfo.opened
-identifier-value-steady =
-    steady-weaker (text identifierValue) (Ends identifierToken) Delimited (delimited-ends (inClass Token) refl)
-    (text-steady identifierValue (Ends identifierToken)
-    (choose-local (code "\"") quoted identifierToken (Ends identifierToken) (local-weaker quoted Any (Ends identifierToken) (λ t g. tt) quoted-local) token-local))
+    pub first-payload : (new : List ℕ) (x : Reported) → Behind (payload [] (drop at s)) old to new x → Behind (headed First (drop at s)) old to new x
+    first-payload new x b = behind-as first-is b
 
-pub identifier-within : Within 1 identifier
-unfolding identifier
-identifier-within =
-    bind-within₂ 1 skip _ skip-within
-    (λ u. bind-within 1 (text identifierValue) (λ v. Then (valueText v)) (text-within identifierValue value-fits) (λ v. then-within (valueText v)))
+  pub first-shut : d ≡ false → (x : Reported) → x ≡ refused 9 0 → Behind (headed First (drop at s)) old to old x
+  first-shut t x e = behind-malformed (headed-shut First (drop at s) (sym h ∙ t)) e refl
 
-pub identifier-steady : Steady identifier Delimited
-unfolding identifier
-identifier-steady =
-    then-steady skip _ (Ends space) Delimited skip-steady
-    (λ u. zero-steady (text identifierValue) (λ v. Then (valueText v)) Delimited identifier-value-steady
-    (λ v. then-delimited-steady (valueText v)) (λ v. then-zero (valueText v)))
-    (λ u. bind-opens (text identifierValue) (λ v. Then (valueText v)) (Ends space) (text-opens identifierValue (Ends space) identifier-value-solid))
+-- ==== another header version
 
--- ==== header version
+span-size : (s : List ℕ) (a e : ℕ) → a ≤ e → e ≤ length s → length (span s a e) ≡ e - a
+span-size s a e l m = length-take-le (e - a) (drop a s) (omega (arith, length-drop a s))
 
-pub stated-within : Within 1 stated
-unfolding stated
-stated-within = bind-within 1 gap (λ u. readDigits) gap-within (λ u. within-weaker 0 1 readDigits digits-within (omega arith))
+version-line : (v : List ℕ) → length (versionLine v) ≡ length v + 3
+unfolding versionLine line
+version-line v = omega (arith, length-append v (10 ∷ []))
 
-stated-opens : Opens stated Delimited
-unfolding stated
-stated-opens = gap-delimited readDigits
+module _ (s : List ℕ) (a e : ℕ) (old : List ℕ) (to : ℕ) where
+  pub newer-fits : ((length s ≤ byteLimit) × (to ≤ 2 ^ 32)) × ((a ≤ e) × (e ≤ length s)) → to + length (versionLine (span s a e)) < 2 ^ 64
+  newer-fits r = omega (arith, version-line (span s a e), span-size s a e (r .1 .0) (r .1 .1), r .0, r .1)
 
-digits-solid : Opens readDigits (Ends space)
-unfolding resinfo.opened
-digits-solid = opens-weaker readDigits (Starts (inClass Digit)) (Ends space) (solid (inClass Digit) refl) digits-opens
+  module _ (d : Bool) (h : d ≡ follows (inClass Delimiter) (drop e s)) where
+    pub newer-stated : d ≡ true → (new : List ℕ) (n : ℕ) → Wrote old to (versionLine (span s a e)) new n
+        → Behind (newerAt s a e) old to new (record { number = 8; place = 0; written = n; ignored = 0 })
+    unfolding newerAt
+    newer-stated t new n w =
+        let f : follows (inClass Delimiter) (drop e s) ≡ true = sym h ∙ t in
+        rw (newerAt, f) (record { answer = rw (w .place); bytes = w .bytes })
 
-delimited-digits : (t : List ℕ) → Delimited t → Ends digits t
-unfolding resinfo.opened
-delimited-digits t g = delimited-ends (inClass Digit) refl t g
+    pub newer-shut : d ≡ false → (x : Reported) → x ≡ refused 9 0 → Behind (newerAt s a e) old to old x
+    unfolding newerAt
+    newer-shut t x q = let f : follows (inClass Delimiter) (drop e s) ≡ false = sym h ∙ t in behind-malformed (rw (newerAt, f)) q refl
 
-pub stated-steady : Steady stated (Ends digits)
-unfolding stated
-stated-steady = then-steady gap (λ u. readDigits) (Ends space) (Ends digits) gap-steady (λ u. digits-steady) (λ u. digits-solid)
+-- ==== the header version that is stated
 
-closed-stated : (t : List ℕ) → Closed t → stated t ≡ nothing
-unfolding stated
-closed-stated t g = closed-gap readDigits (inClass Digit) no-digit digits-opens t g
+-- the digits from a up to e are those that count of a run, and o says whether its number is 1
+record Counts (s : List ℕ) (a e : ℕ) (o : Bool) : Type 0 where
+  at : ℕ
+  less : ℕ
+  some : digits (drop at s) ≡ suc less
+  first : a ≡ at + leading (drop at s)
+  last : e ≡ at + digits (drop at s)
+  is : o ≡ isOne (drop at s)
+
+version-inv : (s : List ℕ) (at a e : ℕ) (o : Bool) → Stated a e o ≡ versionAt s at → Counts s a e o
+unfolding versionAt versionFrom
+version-inv s at a e o h = spaces (space (drop at s)) refl
   where
-    no-digit : inClass Digit 59 ≡ false
-    no-digit = unfold resinfo.opened in refl
+    absent : Stated a e o ≡ Absent → Counts s a e o
+    absent z = absurd (let b : _≡_ {A = ℕ} 0 1 = cc in omega arith)
 
--- ==== head
+    run : (m n : ℕ) → space (drop at s) ≡ suc m → digits (drop (at + suc m) s) ≡ n → Counts s a e o
+    run m zero i d = absent (rw (versionAt, i, versionFrom, d) at h)
+    run m (suc n) i d =
+        let b = at + suc m in
+        let w : Stated a e o ≡ Stated (b + leading (drop b s)) (b + suc n) (isOne (drop b s)) = rw (versionAt, i, versionFrom, d) at h in
+        let j : a ≡ b + leading (drop b s) = cc in
+        let k : e ≡ b + suc n = cc in
+        let l : o ≡ isOne (drop b s) = cc in
+        record { at = b; less = n; some = d; first = j; last = k ∙ ap (λ (x : ℕ). b + x) (sym d); is = l }
 
-abbrev headIs : List ℕ → Option (List ℕ) → Head
-headIs i v = record { identifier = i; version = orOne v }
+    spaces : (m : ℕ) → space (drop at s) ≡ m → Counts s a e o
+    spaces zero i = absent (rw (versionAt, i) at h)
+    spaces (suc m) i = run m (digits (drop (at + suc m) s)) i refl
 
--- from the header version on
-abbrev Versioned : List ℕ → Parser Head
-Versioned i = _>>=_ (optional stated) (λ v. give (headIs i v))
+zero-digit : (b : ℕ) → inClass Zero b ≡ true → inClass Digit b ≡ true
+unfolding inClass within
+zero-digit b e = rw (eqb-true b 48 e)
 
-pub head-within : Within 1 head
-unfolding head
-head-within =
-    bind-within 1 identifier Versioned identifier-within
-    (λ i. bind-within 0 (optional stated) (λ v. give (headIs i v)) (optional-within 1 stated stated-within) (λ v. give-within (headIs i v)))
+-- those that don't count are digits of the run
+leading-le : (xs : List ℕ) → leading xs ≤ digits xs
+unfolding leading
+leading-le xs =
+    cond-le (eqb (zeros xs) (digits xs)) (digits xs - 1) (zeros xs) (digits xs) (λ i. omega arith)
+    (run-narrow (inClass Zero) (inClass Digit) zero-digit xs)
 
-pub head-steady : Steady head Closed
-unfolding head
-head-steady =
-    bind-steady identifier Versioned Delimited Closed identifier-steady
-    (λ i. map-steady (optional stated) (headIs i) Closed
-    (steady-weaker (optional stated) (λ t. Ends digits t × (stated t ≡ nothing)) Closed
-    (λ t g. (delimited-digits t (closed-delimited t g), closed-stated t g)) (optional-steady stated (Ends digits) stated-steady)))
-    (λ i b xs k h g. bind-front (optional stated) (λ v. give (headIs i v)) Delimited (optional-front stated Delimited stated-opens)
-    (λ v. zero-front (give (headIs i v)) Delimited (λ ys c n e. give-inv (headIs i v) ys c n e .1)) xs b k h (closed-delimited (drop k xs) g))
+module _ (s : List ℕ) (a e : ℕ) (o : Bool) (c : Counts s a e o) where
+  counts-inside : (a ≤ e) × (e ≤ length s)
+  counts-inside = (
+    omega (arith, c .first, c .last, leading-le (drop (c .at) s)),
+    omega (arith, c .last, c .some, run-fits (inClass Digit) (drop (c .at) s), length-drop (c .at) s),
+  )
 
--- ==== a named header version
+  -- they are the digit 1 alone where the number is 1
+  counts-one : same (span s a e) one ≡ o
+  counts-one =
+      let b = c .at in
+      let k : e - a ≡ digits (drop b s) - leading (drop b s) = omega (arith, c .first, c .last) in
+      let l : e - a ≤ length (drop a s) = omega (arith, counts-inside, length-drop a s) in
+      let g : getD (drop a s) 0 0 ≡ getD (drop b s) (leading (drop b s)) 0 =
+      getD-drop a s 0 0 ∙ (ap (λ (k : ℕ). getD s k 0) (omega (arith, c .first)) ∙ sym (getD-drop b s (leading (drop b s)) 0)) in
+      one-alone (e - a) (drop a s) l ∙ (rw (k, g) (sym (one-is (drop b s))) ∙ sym (c .is))
 
-abbrev namedHead : List ℕ → List ℕ → Head
-namedHead i v = record { identifier = i; version = v }
+module _ (s : List ℕ) (at : ℕ) where
+  headed-at : (v : Option (List ℕ)) (n : ℕ) → got v n ≡ from (optional stated) s at → headedAt s at ≡ headed (named [] (orOne v)) (drop n s)
+  unfolding headedAt
+  headed-at v n e = rw (headedAt, ← e)
 
-abbrev Naming : List ℕ → Parser Head
-Naming i = _>>=_ stated (λ v. Then (namedHead i v))
+  module _ (old : List ℕ) (to : ℕ) where
+    module _ (a e : ℕ) (o : Bool) (h : Stated a e o ≡ versionAt s at) where
+      stated-is : headedAt s at ≡ headed (named [] (span s a e)) (drop e s)
+      unfolding orOne
+      stated-is = headed-at (some (span s a e)) e (ap (versionGot s at) h ∙ version-got s at)
 
-pub naming-within : Within 1 naming
-unfolding naming
-naming-within =
-    bind-within 1 identifier Naming identifier-within
-    (λ i. bind-within 0 stated (λ v. Then (namedHead i v)) (within-weaker 0 1 stated stated-within (omega arith)) (λ v. then-within (namedHead i v)))
+      one-said : same (span s a e) one ≡ o
+      one-said = counts-one s a e o (version-inv s at a e o h)
 
-pub naming-steady : Steady naming Delimited
-unfolding naming
-naming-steady =
-    then-steady identifier Naming Delimited Delimited identifier-steady
-    (λ i. zero-steady stated (λ v. Then (namedHead i v)) Delimited (steady-weaker stated (Ends digits) Delimited delimited-digits stated-steady)
-    (λ v. then-delimited-steady (namedHead i v)) (λ v. then-zero (namedHead i v)))
-    (λ i. bind-opens stated (λ v. Then (namedHead i v)) Delimited stated-opens)
+      module _ (t : o ≡ true) where
+        one-is-first : headedAt s at ≡ headed First (drop e s)
+        one-is-first =
+            let i : span s a e ≡ one = same-eq (span s a e) one (one-said ∙ t) in
+            stated-is ∙ ap (λ (v : List ℕ). headed (named [] v) (drop e s)) i
 
--- it is in the head, and the end or a delimiter follows
-pub naming-head : (xs : List ℕ) (h : Head) (n : ℕ) → naming xs ≡ got h n → (head xs ≡ got h n) × Delimited (drop n xs)
-unfolding naming head orOne
-naming-head xs h n e =
-    let v = bind-inv identifier Naming xs h n e in
-    let i = v .val in
-    let ys = drop (v .fst) xs in
-    let w = bind-inv stated (λ v. Then (namedHead i v)) ys h (v .snd) (v .goes) in
-    let zs = drop (w .fst) ys in
-    let a = namedHead i (w .val) in
-    let t = bind-inv (ahead (inClass Delimiter)) (λ u. give a) zs h (w .snd) (w .goes) in
-    let z : w .snd ≡ 0 = then-zero a zs h (w .snd) (w .goes) in
-    let c : a ≡ h = give-inv a (drop (t .fst) zs) h (t .snd) (t .goes) .0 in
-    let s : w .fst ≡ v .snd = omega (arith, w .sum) in
-    let d : drop n xs ≡ zs = ap (λ (k : ℕ). drop k xs) (sym (v .sum)) ∙ (sym (drop-drop (v .snd) (v .fst) xs) ∙ rw s) in
-    let f : Versioned i ys ≡ got a (w .fst + 0) =
-    bind-got (optional stated) (λ v. give (headIs i v)) ys (some (w .val)) (w .fst) a 0 (optional-some stated ys (w .val) (w .fst) (w .reads)) (give-is a zs) in
-    let l : v .fst + (w .fst + 0) ≡ n = omega (arith, v .sum) in
-    (bind-got identifier Versioned xs i (v .fst) a (w .fst + 0) (v .reads) f ∙ rw (c, l), rw d (then-delimited a zs h (w .snd) (w .goes)))
+        pub one-room : Room s (headedAt s at) old to → Room s (headed First (drop e s)) old to
+        one-room r = room-as s old to one-is-first r
+
+        pub one-stated : (new : List ℕ) (x : Reported) → Behind (headed First (drop e s)) old to new x → Behind (headedAt s at) old to new x
+        one-stated new x b = behind-as one-is-first b
+
+      pub other-room : Room s (headedAt s at) old to → ((length s ≤ byteLimit) × (to ≤ 2 ^ 32)) × ((a ≤ e) × (e ≤ length s))
+      other-room r = (r .0, counts-inside s a e o (version-inv s at a e o h))
+
+      pub other-stated : o ≡ false → (new : List ℕ) (x : Reported) → Behind (newerAt s a e) old to new x → Behind (headedAt s at) old to new x
+      unfolding newerAt headed
+      other-stated f new x b = behind-as (stated-is ∙ go (follows (inClass Delimiter) (drop e s)) refl) b
+        where
+          go : (t : Bool) → follows (inClass Delimiter) (drop e s) ≡ t → headed (named [] (span s a e)) (drop e s) ≡ newerAt s a e
+          go true d = rw (headed, newerAt, d, one-said, f)
+          go false d = rw (headed, newerAt, d)
+
+    module _ (h : Absent ≡ versionAt s at) where
+      absent-is : headedAt s at ≡ headed First (drop at s)
+      unfolding orOne
+      absent-is = headed-at none at (ap (versionGot s at) h ∙ version-got s at)
+
+      pub absent-room : Room s (headedAt s at) old to → Room s (headed First (drop at s)) old to
+      absent-room r = room-as s old to absent-is r
+
+      pub absent-stated : (new : List ℕ) (x : Reported) → Behind (headed First (drop at s)) old to new x → Behind (headedAt s at) old to new x
+      absent-stated new x b = behind-as absent-is b
+
+-- ==== the identifier's text
+
+-- two readings that differ only in the text of the identifier, i or none
+data Alike (i : List ℕ) : Reading → Reading → Type 0 where
+  ill : Alike i malformed malformed
+  other : (v : List ℕ) → Alike i (newer (named i v)) (newer (named [] v))
+  word : Alike i (noResult i) (noResult [])
+  list : (rs : List Result) → Alike i (results i rs) (results [] rs)
+
+module _ (i xs : List ℕ) where
+  payload-alike : Alike i (payload i xs) (payload [] xs)
+  unfolding payload
+  payload-alike = go (resinfos xs) refl
+    where
+      unlike : resinfos xs ≡ nothing → (g : Got (Unit {0})) → wordNone xs ≡ g → Alike i (payload i xs) (payload [] xs)
+      unlike e nothing f = rw (payload, e, f) ill
+      unlike e (got u n) f = rw (payload, e, f) word
+
+      go : (g : Got (List Result)) → resinfos xs ≡ g → Alike i (payload i xs) (payload [] xs)
+      go nothing e = unlike e (wordNone xs) refl
+      go (got [] n) e = rw (payload, e) ill
+      go (got (r ∷ rs) n) e = rw (payload, e) (list (r ∷ rs))
+
+  headed-alike : (v : List ℕ) → Alike i (headed (named i v) xs) (headed (named [] v) xs)
+  unfolding headed
+  headed-alike v = go (follows (inClass Delimiter) xs) (same v one) refl refl
+    where
+      go : (f o : Bool) → follows (inClass Delimiter) xs ≡ f → same v one ≡ o
+          → Alike i (headed (named i v) xs) (headed (named [] v) xs)
+      go false o p q = rw (headed, p) ill
+      go true true p q = rw (headed, p, q) payload-alike
+      go true false p q = rw (headed, p, q) (other v)
+
+module _ (s i : List ℕ) (e : ℕ) (h : identifier s ≡ got i e) where
+  head-is : (v : Option (List ℕ)) (n : ℕ) → optional stated (drop e s) ≡ got v n → head s ≡ got (named i (orOne v)) (e + n)
+  unfolding head
+  head-is v n o =
+      let z : e + (n + 0) ≡ e + n = omega arith in
+      bind-got identifier _ s i e (named i (orOne v)) (n + 0) h
+      (bind-got (optional stated) _ (drop e s) v n (named i (orOne v)) 0 o (give-is (named i (orOne v)) (drop n (drop e s))))
+      ∙ rw z
+
+  -- a body whose identifier is read says what stands behind it
+  reading-alike : Alike i (reading s) (headedAt s e)
+  reading-alike = go (stated (drop e s)) refl
+    where
+      behind : (v : Option (List ℕ)) (n : ℕ) → optional stated (drop e s) ≡ got v n → Alike i (reading s) (headedAt s e)
+      behind v n o =
+          rw (reading-is s (named i (orOne v)) (e + n) (head-is v n o), headed-at s e v (e + n) (at-got (optional stated) s e v n (e + n) o refl))
+          (headed-alike i (drop (e + n) s) (orOne v))
+
+      go : (g : Got (List ℕ)) → stated (drop e s) ≡ g → Alike i (reading s) (headedAt s e)
+      go nothing q = behind none 0 (optional-none stated (drop e s) q)
+      go (got v n) q = behind (some v) n (optional-some stated (drop e s) v n q)
+
+-- ==== the whole body, behind the line of the identifier
+
+module _ (i : List ℕ) where
+  alike-room : (x y : Reading) → Alike i x y → length (wholeText x) ≤ length (idLine i) + length (behindId y)
+  alike-room x y ill = omega arith
+  alike-room x y (other v) = omega (arith, length-append (idLine i) (versionLine v))
+  alike-room x y word = omega (arith, length-append (idLine i) noneLine)
+  alike-room x y (list rs) = omega (arith, length-append (idLine i) (lines rs))
+
+  module _ (old mid : List ℕ) (n : ℕ) (new : List ℕ) (w : Wrote old 0 (idLine i) mid n) where
+    -- a text behind that line
+    after-id : (t : List ℕ) → new ≡ sets mid n t → Wrote old 0 (idLine i ++ t) new (n + length t)
+    after-id t b = wrote-then w (record { place = refl; bytes = b })
+
+    alike-said : (x y : Reading) (r : Reported) → Alike i x y → length old ≤ length (wholeText x) → Behind y mid n new r → Said x old new r
+    alike-said x y r ill l b = record { answer = b .answer; bytes = b .bytes ∙ (w .bytes ∙ sets-out old 0 (idLine i) l) }
+    alike-said x y r (other v) l b =
+        let a = after-id (versionLine v) (b .bytes) in
+        record { answer = b .answer ∙ rw (wrote-count a); bytes = a .bytes }
+    alike-said x y r word l b =
+        let a = after-id noneLine (b .bytes) in
+        record { answer = b .answer ∙ rw (wrote-count a); bytes = a .bytes }
+    alike-said x y r (list rs) l b =
+        let a = after-id (lines rs) (b .bytes) in
+        record { answer = b .answer ∙ rw (wrote-count a); bytes = a .bytes }
+
+-- the value of an identifier that is found is not empty
+readable-some : (s : List ℕ) (a e : ℕ) (q : Bool) (b f : ℕ) (p : Bool) → Readable b f p ≡ readable s a e q → f ≡ b → ⊥
+unfolding readable
+readable-some s a e q b f p h z = go (eqb e a) refl
+  where
+    apart : Readable b f p ≡ Unreadable → ⊥
+    apart i = let o : _≡_ {A = ℕ} 0 1 = cc in omega arith
+
+    second : eqb e a ≡ false → (t : Bool) → follows (inClass Delimiter) (drop e s) ≡ t → ⊥
+    second n true d =
+        let w : Readable b f p ≡ Readable a e q = rw (readable, n, d) at h in
+        let u : b ≡ a = cc in
+        let v : f ≡ e = cc in
+        eqb-false e a n (omega arith)
+    second n false d = apart (rw (readable, n, d) at h)
+
+    go : (t : Bool) → eqb e a ≡ t → ⊥
+    go true n = apart (rw (readable, n) at h)
+    go false n = second n (follows (inClass Delimiter) (drop e s)) refl
+
+identifier-some : (s : List ℕ) (a e : ℕ) (q : Bool) → Readable a e q ≡ identifierAt s → e ≡ a → ⊥
+unfolding identifierFrom
+identifier-some s a e q h z = go (eqb (getD (drop (space s) s) 0 0) 34) refl
+  where
+    go : (t : Bool) → eqb (getD (drop (space s) s) 0 0) 34 ≡ t → ⊥
+    go true t = readable-some s _ _ _ a e q (rw (identifierFrom, t) at h) z
+    go false t = readable-some s _ _ _ a e q (rw (identifierFrom, t) at h) z
+
+module _ (s : List ℕ) (a e : ℕ) (q : Bool) (old : List ℕ)
+    (room : ((length s ≤ byteLimit) × (Readable a e q ≡ identifierAt s)) × (length old ≤ length (wholeText (reading s)))) where
+  id-reads : identifier s ≡ got (textOf s a e q) e
+  id-reads = identifier-found s a e q (room .0 .1)
+
+  id-short : length (idLine (textOf s a e q)) ≤ 3 * byteLimit + 4
+  id-short = omega (arith, id-size s (textOf s a e q) e id-reads, identifier-inside s a e q (room .0 .1) .1, room .0 .0)
+
+  pub id-room : ((a < e) × (e ≤ length s)) × (length (idLine (textOf s a e q)) < 2 ^ 64)
+  id-room =
+      let i = identifier-inside s a e q (room .0 .1) in
+      ((omega (arith, i, identifier-some s a e q (room .0 .1)), i .1), omega (arith, id-short))
+
+  module _ (mid : List ℕ) (n : ℕ) (w : Wrote old 0 (idLine (textOf s a e q)) mid n) where
+    pub body-room : Room s (headedAt s e) mid n
+    body-room =
+        let r = alike-room (textOf s a e q) (reading s) (headedAt s e) (reading-alike s (textOf s a e q) e id-reads) in
+        ((room .0 .0, omega (arith, id-short, wrote-count w)), omega (arith, wrote-long w, wrote-count w, room .1, r))
+
+    pub body-said : (new : List ℕ) (r : Reported) → Behind (headedAt s e) mid n new r → Said (reading s) old new r
+    body-said new r b =
+        alike-said (textOf s a e q) old mid n new w (reading s) (headedAt s e) r (reading-alike s (textOf s a e q) e id-reads) (room .1) b

@@ -1,10 +1,8 @@
-pub mod Opened
-pub mod Samples
+pub mod Escapes
+pub mod Columns
+pub mod Turns
+pub mod Passes
+pub mod Payloads
 pub mod Heads
-pub mod Readings
-pub mod Sequence
-pub mod NoResult
-pub mod Cuts
-pub mod Places
-pub mod Ignored
-pub mod Demand3
+pub mod Ends
+pub mod Headlines

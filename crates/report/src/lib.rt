@@ -1,1 +1,168 @@
-// The report of a whole field body: its grammar, the report's lines, the answers. There is no code here yet.
+// The report of a field body: who checked a message, and what they found.
+//
+// `report(body, out)` writes lines ended by LF, columns parted by one tab (RFC 8601 by the rules of 01, "The report"), and answers
+//   0  done: the bytes written and how many results were ignored, place 0
+//   1  the body has more than 65,536 bytes: place 0
+//   7  the identifier can't be read: place 0
+//   8  the header version isn't 1: two lines, the identifier and the version, place 0
+//   9  the body is not well-formed: place 0
+//   6  `out` is too short: the bytes needed
+// tried in this order (1, then 7, 8 or 9, then 6 where it would have been 0 or 8). A refusal, any of these but 0 and 8, writes nothing and
+// returns zero counts; bytes past those written stay unchanged.
+use authserv::Identifier;
+use authserv::Version;
+ghost use mathlib.Core.Path.{_≡_};
+ghost use mathlib.Core.List.{[]};
+ghost use Prim.Native.Nat.{_+_, _≤_, _^_};
+ghost use lib.ListN.{length, drop};
+ghost use Rattle.lexis.specs.Limits.{byteLimit};
+ghost use Rattle.authserv.specs.Answers.{identifierAt};
+ghost use Rattle.resinfo.specs.Results.{one};
+ghost use Rattle.body.specs.Body.{wordNone, payload, headed, reading};
+ghost use Rattle.body.specs.Report.{report};
+ghost use Rattle.report.specs.Answers.{answerOf, leaves};
+ghost use Rattle.report.specs.Internal.{succeeds, behindId, wholeText, newerAt, headedAt, Behind, Said};
+
+mod results;
+mod write;
+
+pub struct Reported {
+    pub number: u8,
+    pub place: usize,
+    pub written: usize,
+    pub ignored: usize,
+}
+
+fn refuse(number: u8, place: usize) -> Reported
+    ensures { λ r. ⌜ r ≡ record { number = number; place = place; written = 0; ignored = 0 } ⌝ }
+{
+    Reported {
+        number,
+        place,
+        written: 0,
+        ignored: 0,
+    }
+}
+
+// Whether ";" and the word none, and after space the end, stand behind a place.
+fn says_none(s: &[u8], at: usize) -> bool
+    ensures { λ r. ⌜ r ≡ succeeds wordNone (drop at (now (s .entry))) ⌝ }
+{
+    let a = resinfo::parts::mark_end(s, at, b';');
+    if a == at {
+        return false;
+    }
+    let e = lexis::keyword_end(s, a);
+    if e == a {
+        return false;
+    }
+    if lexis::text::same_text(&s[a..e], b"none") {
+        return lexis::space_end(s, e) >= s.len();
+    }
+    false
+}
+
+// Results or the word none, behind a head that ends at a place; `to` bytes come before them.
+fn put_payload(s: &[u8], at: usize, out: &mut [u8], to: usize) -> Reported
+    requires { ⌜ ((length (now s) ≤ byteLimit) × (to ≤ 2 ^ 32)) × (length (now out) ≤ to + length (behindId (payload [] (drop at (now s))))) ⌝ }
+    ensures { λ r. ⌜ Behind (payload [] (drop at (now (s .entry)))) (now (out .entry)) to (now (out .exit)) r ⌝ }
+{
+    if says_none(s, at) {
+        let n = write::put_none(out, to);
+        return Reported {
+            number: 0,
+            place: 0,
+            written: n,
+            ignored: 0,
+        };
+    }
+    let r = results::put_results(s, at, out, to);
+    if r.end == at {
+        return refuse(9, 0);
+    }
+    if lexis::space_end(s, r.end) < s.len() {
+        return refuse(9, 0);
+    }
+    Reported {
+        number: 0,
+        place: 0,
+        written: r.next,
+        ignored: r.ignored,
+    }
+}
+
+// The same where it has to be asked first what follows the head.
+fn put_first(s: &[u8], at: usize, out: &mut [u8], to: usize) -> Reported
+    requires { ⌜ ((length (now s) ≤ byteLimit) × (to ≤ 2 ^ 32)) × (length (now out) ≤ to + length (behindId (headed (record { identifier = []; version = one }) (drop at (now s))))) ⌝ }
+    ensures { λ r. ⌜ Behind (headed (record { identifier = []; version = one }) (drop at (now (s .entry)))) (now (out .entry)) to (now (out .exit)) r ⌝ }
+{
+    if authserv::delimited(s, at) {
+        return put_payload(s, at, out, to);
+    }
+    refuse(9, 0)
+}
+
+// The line of a header version other than 1, whose digits stand from a up to e: nothing behind it is read.
+fn put_newer(s: &[u8], a: usize, e: usize, out: &mut [u8], to: usize) -> Reported
+    requires { ⌜ ((length (now s) ≤ byteLimit) × (to ≤ 2 ^ 32)) × ((a ≤ e) × (e ≤ length (now s))) ⌝ }
+    ensures { λ r. ⌜ Behind (newerAt (now (s .entry)) a e) (now (out .entry)) to (now (out .exit)) r ⌝ }
+{
+    if authserv::delimited(s, e) {
+        let n = write::put_version(&s[a..e], out, to);
+        return Reported {
+            number: 8,
+            place: 0,
+            written: n,
+            ignored: 0,
+        };
+    }
+    refuse(9, 0)
+}
+
+// Header version and what follows it, behind an identifier that ends at a place.
+fn put_headed(s: &[u8], at: usize, out: &mut [u8], to: usize) -> Reported
+    requires { ⌜ ((length (now s) ≤ byteLimit) × (to ≤ 2 ^ 32)) × (length (now out) ≤ to + length (behindId (headedAt (now s) at))) ⌝ }
+    ensures { λ r. ⌜ Behind (headedAt (now (s .entry)) at) (now (out .entry)) to (now (out .exit)) r ⌝ }
+{
+    match authserv::version_at(s, at) {
+        Version::Stated { start, end, one } => {
+            if one {
+                return put_first(s, end, out, to);
+            }
+            put_newer(s, start, end, out, to)
+        }
+        Version::Absent => put_first(s, at, out, to),
+    }
+}
+
+// All that a body says whose identifier stands from a up to e, written over the front of `out`. There must be no more room than that takes:
+// so on a body that is not well-formed there is none, and nothing is written.
+fn put_body(s: &[u8], a: usize, e: usize, quoted: bool, out: &mut [u8]) -> Reported
+    requires { ⌜ ((length (now s) ≤ byteLimit) × (Identifier.Readable a e quoted ≡ identifierAt (now s))) × (length (now out) ≤ length (wholeText (reading (now s)))) ⌝ }
+    ensures { λ r. ⌜ Said (reading (now (s .entry))) (now (out .entry)) (now (out .exit)) r ⌝ }
+{
+    let n = write::put_id(s, a, e, quoted, out);
+    put_headed(s, e, out, n)
+}
+
+// The first pass runs on no room at all, and so only measures: nothing is written before it is known that all of it fits.
+pub fn report(body: &[u8], out: &mut [u8]) -> Reported
+    ensures { λ r. ⌜ r ≡ answerOf (report (now (body .entry)) (length (now (out .entry)))) ⌝ }
+    ensures { λ _. ⌜ now (out .exit) ≡ leaves (report (now (body .entry)) (length (now (out .entry)))) (now (out .entry)) ⌝ }
+{
+    if lexis::too_long(body) {
+        return refuse(1, 0);
+    }
+    let Identifier::Readable { start, end, quoted } = authserv::identify(body) else {
+        return refuse(7, 0);
+    };
+    let mut none = [0u8; 1];
+    let first = put_body(body, start, end, quoted, &mut none[..0]);
+    if first.number == 9 {
+        return first;
+    }
+    if first.written > out.len() {
+        return refuse(6, first.written);
+    }
+    put_body(body, start, end, quoted, &mut out[..first.written])
+}

@@ -89,7 +89,7 @@ module _ (s : List ℕ) (at e : ℕ) (q : e ≡ at + keyword (drop at s)) where
 -- ==== the version is 1
 
 -- the front of a text is the digit 1 alone
-one-alone : (k : ℕ) (ys : List ℕ) → k ≤ length ys → same (take k ys) (bytes "1") ≡ (eqb k 1 && eqb (getD ys 0 0) 49)
+pub one-alone : (k : ℕ) (ys : List ℕ) → k ≤ length ys → same (take k ys) (bytes "1") ≡ (eqb k 1 && eqb (getD ys 0 0) 49)
 unfolding same
 one-alone zero ys l = refl
 one-alone (suc zero) [] l = absurd (omega arith)

@@ -1,0 +1,12 @@
+pub mod Opened
+pub mod Samples
+pub mod Heads
+pub mod Readings
+pub mod Sequence
+pub mod NoResult
+pub mod Cuts
+pub mod Places
+pub mod Ignored
+pub mod Demand3
+pub mod Weights
+pub mod Sizes

@@ -1,0 +1,4 @@
+pub mod Body
+pub mod Report
+pub mod Newer
+pub mod Beside

@@ -1,0 +1,134 @@
+-- The answers of the report, one law for each way out of the code: a body that is refused leaves the buffer as it is, and one that is
+-- told fills it with exactly its text, since the second pass is lent as much room as the first one measured. Assumes nothing.
+use Prim.Native.Nat.{ℕ, _≤_, _<_, zero-le}
+use native.Mathlib.Omega.{arith}
+use mathlib.Core.Path.{_≡_, refl, sym, ap, _∙_}
+use mathlib.Core.Bool.{Bool, true, false}
+use mathlib.Core.List.{List, [], _++_, append-nil}
+use borrow.Author.Tests.{ltb-true, ltb-false, le-leb, lt-leb}
+use lib.Dec.{ltb, leb}
+use lib.ListN.{length, take, drop, drop-of-length-le}
+use lib.Seq.{sets, length-take-le}
+use Rattle.sequences.proofs.Splices.{sets-front}
+use Rattle.reading.specs.Parsers.{nothing}
+use Rattle.reading.proofs.Sequencing.{bind-none}
+use Rattle.lexis.specs.Limits.{byteLimit}
+use Rattle.authserv.specs.declared.Identifier.the-variants.{Readable, Unreadable}
+use Rattle.authserv.specs.Identifier.{identifier}
+use Rattle.authserv.specs.Answers.{identifierAt}
+use Rattle.authserv.proofs.Identifiers.{identifier-not}
+use Rattle.body.specs.Body.{Reading, unreadable, malformed, newer, noResult, results, head, reading}
+use Rattle.body.specs.Report.{refusal, fitted, answer, report}
+use Rattle.body.proofs.Readings.{report-is}
+use Rattle.report.specs.declared.Reported.{Reported}
+use Rattle.report.specs.Answers.{answerOf, leaves}
+use Rattle.report.specs.Internal.{wholeText, refused, wholeAnswer, Said}
+
+-- ==== what is said, and the answer
+
+whole-written : (x : Reading) → wholeAnswer x .written ≡ length (wholeText x)
+whole-written unreadable = refl
+whole-written malformed = refl
+whole-written (newer h) = refl
+whole-written (noResult i) = refl
+whole-written (results i rs) = refl
+
+module _ (room : ℕ) where
+  -- where there is room for all of it
+  whole-fits : (x : Reading) → length (wholeText x) ≤ room → (wholeAnswer x ≡ answerOf (answer room x)) × (wholeText x ≡ answer room x .written)
+  unfolding answer fitted refusal
+  whole-fits unreadable l = (refl, refl)
+  whole-fits malformed l = (refl, refl)
+  whole-fits (newer h) l = let t = le-leb (length (wholeText (newer h))) room l in (rw (fitted, t), rw (fitted, t))
+  whole-fits (noResult i) l = let t = le-leb (length (wholeText (noResult i))) room l in (rw (fitted, t), rw (fitted, t))
+  whole-fits (results i rs) l = let t = le-leb (length (wholeText (results i rs))) room l in (rw (fitted, t), rw (fitted, t))
+
+  -- where there is not
+  whole-short : (x : Reading) → room < length (wholeText x) → answer room x ≡ refusal 6 (length (wholeText x))
+  unfolding answer fitted
+  whole-short unreadable l = absurd (omega arith)
+  whole-short malformed l = absurd (omega arith)
+  whole-short (newer h) l = let t = lt-leb (length (wholeText (newer h))) room l in rw (fitted, t)
+  whole-short (noResult i) l = let t = lt-leb (length (wholeText (noResult i))) room l in rw (fitted, t)
+  whole-short (results i rs) l = let t = lt-leb (length (wholeText (results i rs))) room l in rw (fitted, t)
+
+  -- only a body that is not well-formed is answered 9
+  whole-nine : (x : Reading) → wholeAnswer x .number ≡ 9 → (wholeAnswer x ≡ refused 9 0) × (answer room x ≡ refusal 9 0)
+  unfolding answer
+  whole-nine unreadable e = absurd (omega arith)
+  whole-nine malformed e = (refl, refl)
+  whole-nine (newer h) e = absurd (omega arith)
+  whole-nine (noResult i) e = absurd (omega arith)
+  whole-nine (results i rs) e = absurd (omega arith)
+
+reading-not : (s : List ℕ) → identifier s ≡ nothing → reading s ≡ unreadable
+unfolding reading head
+reading-not s e = let h : head s ≡ nothing = bind-none identifier _ s e in rw (reading, h)
+
+-- a text stored in a buffer of exactly its length is what the buffer holds then
+sets-whole : (l vs : List ℕ) → length l ≡ length vs → sets l 0 vs ≡ vs
+sets-whole l vs e =
+    let d : drop (length vs) l ≡ [] = drop-of-length-le l {i = length vs} (omega arith) in
+    sets-front l vs (omega arith) ∙ rw (d, append-nil vs)
+
+-- the second pass is lent a front of the buffer
+pub second-long : (old : List ℕ) (n : ℕ) → n ≤ length old → n ≡ length (take n old)
+second-long old n l = sym (length-take-le n old l)
+
+-- ==== one law for each way out
+
+-- an answer, and what it leaves
+abbrev pub Answered : List ℕ → List ℕ → List ℕ → Reported → Type 0
+Answered s old new r = (r ≡ answerOf (report s (length old))) × (new ≡ leaves (report s (length old)) old)
+
+module _ (s old : List ℕ) (big : Bool) (b : big ≡ ltb byteLimit (length s)) where
+  refuses : (r : Reported) (n p : ℕ) → r ≡ refused n p → report s (length old) ≡ refusal n p → Answered s old old r
+  unfolding refusal
+  refuses r n p e q = (rw q e, rw q)
+
+  pub answer-1 : big ≡ true → (r : Reported) → r ≡ refused 1 0 → Answered s old old r
+  unfolding report
+  answer-1 t r e =
+      let l : leb (length s) byteLimit ≡ false = lt-leb (length s) byteLimit (ltb-true byteLimit (length s) (sym b ∙ t)) in
+      refuses r 1 0 e (rw (report, l))
+
+  module _ (f : big ≡ false) where
+    small : length s ≤ byteLimit
+    small = ltb-false byteLimit (length s) (sym b ∙ f)
+
+    pub answer-7 : Unreadable ≡ identifierAt s → (r : Reported) → r ≡ refused 7 0 → Answered s old old r
+    unfolding answer
+    answer-7 u r e = refuses r 7 0 e (report-is s (length old) small ∙ ap (answer (length old)) (reading-not s (identifier-not s u)))
+
+    module _ (a e : ℕ) (q : Bool) (i : Readable a e q ≡ identifierAt s) where
+      -- the first pass is lent no room
+      pub first-room : ((length s ≤ byteLimit) × (Readable a e q ≡ identifierAt s)) × (0 ≤ length (wholeText (reading s)))
+      first-room = ((small, i), zero-le)
+
+      -- the second one as much as the first one measured
+      pub second-room : (empty none : List ℕ) (m : Reported) → Said (reading s) empty none m → m .written ≤ length old
+          → ((length s ≤ byteLimit) × (Readable a e q ≡ identifierAt s)) × (length (take (m .written) old) ≤ length (wholeText (reading s)))
+      second-room empty none m k l =
+          ((small, i), omega (arith, length-take-le (m .written) old l, ap (λ (x : Reported). x .written) (k .answer), whole-written (reading s)))
+
+    module _ (empty none : List ℕ) (m : Reported) (k : Said (reading s) empty none m) where
+      needed : m .written ≡ length (wholeText (reading s))
+      needed = ap (λ (x : Reported). x .written) (k .answer) ∙ whole-written (reading s)
+
+      pub answer-9 : m .number ≡ 9 → Answered s old old m
+      answer-9 z =
+          let w = whole-nine (length old) (reading s) (sym (ap (λ (x : Reported). x .number) (k .answer)) ∙ z) in
+          refuses m 9 0 (k .answer ∙ w .0) (report-is s (length old) small ∙ w .1)
+
+      pub answer-6 : length old < m .written → (r : Reported) → r ≡ refused 6 (m .written) → Answered s old old r
+      answer-6 l r e =
+          refuses r 6 (m .written) e (report-is s (length old) small ∙ (whole-short (length old) (reading s) (rw needed at l) ∙ rw needed))
+
+      pub answer-0-8 : m .written ≤ length old → (out : List ℕ) (r : Reported) → Said (reading s) (take (m .written) old) out r
+          → Answered s old (out ++ drop (m .written) old) r
+      answer-0-8 l out r d =
+          let w = whole-fits (length old) (reading s) (rw needed at l) in
+          let f = sets-whole (take (m .written) old) (wholeText (reading s)) (length-take-le (m .written) old l ∙ needed) in
+          let t : out ≡ wholeText (reading s) = d .bytes ∙ f in
+          let p = report-is s (length old) small in
+          (rw p (d .answer ∙ w .0), rw (p, ← w .1, t, needed))

@@ -1,0 +1,164 @@
+-- The loop over results: each is written at the same place as long as those before it are ignored, and what an ignored one leaves is
+-- written over or lies past the end, since there is no more room than the whole text takes. Assumes nothing.
+use Prim.Native.Nat.{ℕ, suc, _+_, _*_, _≤_, _<_, _^_}
+use native.Mathlib.Nat.{zero-add}
+use native.Mathlib.Omega.{arith}
+use mathlib.Core.Path.{_≡_, refl, sym, ap, _∙_, subst}
+use mathlib.Core.Bool.{Bool, true, false}
+use mathlib.Core.List.{List, [], _∷_, _++_}
+use lib.ListN.{length, drop, set, length-set}
+use lib.Seq.{sets, set-set, set-comm, length-sets}
+use Rattle.sequences.specs.Stored.{Wrote}
+use Rattle.sequences.proofs.Splices.{sets-out, Left, left-start, left-step, left-done}
+use Rattle.reading.specs.Parsers.{Got, nothing, got}
+use Rattle.reading.specs.Places.{from, listAt, endAt}
+use Rattle.reading.proofs.Places.{took}
+use Rattle.reading.proofs.Repeats.{list-none, end-none, further, list-more, end-more}
+use Rattle.lexis.specs.Limits.{byteLimit}
+use Rattle.resinfo.specs.Results.{Result}
+use Rattle.resinfo.specs.Table.{understood}
+use Rattle.body.specs.Body.{resinfo}
+use Rattle.body.specs.Report.{resultLines, lines, ignoredOf}
+use Rattle.body.proofs.Sequence.{resinfo-within}
+use Rattle.report.specs.declared.results.Turn.{Turn}
+use Rattle.report.specs.declared.results.Turn.the-variants as turn
+use Rattle.report.specs.Internal.{turnLines, TurnRead, TurnPut, ResultsPut}
+use Rattle.body.proofs.Sizes.{resinfo-size}
+
+-- ==== text written over text
+
+-- a store before others can be made after them
+set-before : (l : List ℕ) (i j v : ℕ) (ys : List ℕ) → i < j → set (sets l j ys) i v ≡ sets (set l i v) j ys
+set-before l i j v [] h = refl
+set-before l i j v (y ∷ ys) h =
+    set-before (set l j y) i (suc j) v ys (omega arith)
+    ∙ ap (λ (m : List ℕ). sets m (suc j) ys) (set-comm l j i y v (λ e. omega arith))
+
+-- a text that reaches to the end leaves nothing of what was stored from the same place on
+pub sets-over : (l g vs : List ℕ) (i : ℕ) → length l ≤ i + length vs → sets (sets l i g) i vs ≡ sets l i vs
+sets-over l g [] i h = sets-out l i g (omega arith)
+sets-over l [] (v ∷ vs) i h = refl
+sets-over l (y ∷ ys) (v ∷ vs) i h =
+    ap (λ (m : List ℕ). sets m (suc i) vs) (set-before (set l i y) i (suc i) v ys (omega arith))
+    ∙ (ap (λ (m : List ℕ). sets (sets m (suc i) ys) (suc i) vs) (set-set l i y v)
+    ∙ sets-over (set l i v) ys vs (suc i) (omega (arith, length-set l i v)))
+
+-- what is left to write reaches to the end: a text stored there before changes nothing
+pub left-over : {old whole out out′ text g : List ℕ} {from at k : ℕ} → Left old from whole out at text → length out ≤ at + length text
+    → Wrote out at g out′ k → Left old from whole out′ at text
+left-over {out} {text} {g} {at} l h w =
+    record {
+      place = l .place;
+      bytes = rw (w .bytes) (sets-over out g text at h ∙ l .bytes);
+      long = rw (w .bytes, length-sets out at g) (l .long);
+    }
+
+-- ==== one result more
+
+module _ (r : Result) (rs : List Result) where
+  lines-shown : understood r ≡ true → lines (r ∷ rs) ≡ resultLines r ++ lines rs
+  unfolding lines
+  lines-shown u = rw (lines, u)
+
+  lines-ignored : understood r ≡ false → lines (r ∷ rs) ≡ lines rs
+  unfolding lines
+  lines-ignored u = rw (lines, u)
+
+  ignored-not : understood r ≡ true → ignoredOf (r ∷ rs) ≡ ignoredOf rs
+  unfolding ignoredOf
+  ignored-not u = rw (ignoredOf, u) (zero-add _)
+
+  ignored-one : understood r ≡ false → ignoredOf (r ∷ rs) ≡ 1 + ignoredOf rs
+  unfolding ignoredOf
+  ignored-one u = rw (ignoredOf, u)
+
+-- ==== the loop
+
+-- the loop over the results behind a place stands at i: what is left to read, to write and to count ends as the whole would have
+pub record Passing (s : List ℕ) (at : ℕ) (old : List ℕ) (to : ℕ) (out : List ℕ) (i n ignored : ℕ) : Type 0 where
+  pub left : Left old to (lines (listAt resinfo s at)) out n (lines (listAt resinfo s i))
+  pub end : endAt resinfo s i ≡ endAt resinfo s at
+  pub count : ignored + ignoredOf (listAt resinfo s i) ≡ ignoredOf (listAt resinfo s at)
+  pub few : ignored + at ≤ i
+
+pub passing-start : (s : List ℕ) (at : ℕ) (old : List ℕ) (to : ℕ) → Passing s at old to old at to 0
+passing-start s at old to = record { left = left-start _ _ _; end = refl; count = zero-add _; few = omega arith }
+
+-- the lines of a result, understood or not, are at most three times as long as it
+turn-short : (s : List ℕ) (i : ℕ) → length s ≤ byteLimit → length (turnLines s i) ≤ 3 * byteLimit
+unfolding turnLines
+turn-short s i l = go (from resinfo s i) refl
+  where
+    go : (g : Got Result) → from resinfo s i ≡ g → length (turnLines s i) ≤ 3 * byteLimit
+    go nothing e = rw (turnLines, e) (omega arith)
+    go (got r n) e =
+        let t = took resinfo s i r n (sym e) in
+        let m = further resinfo s i resinfo-within r n (sym e) in
+        let z = resinfo-size (drop i s) r (t .size) (t .is) in
+        rw (turnLines, e) (omega (arith, l, m, z, t .sum))
+
+module _ (s : List ℕ) (at : ℕ) (old : List ℕ) (to : ℕ) (out : List ℕ) (i n ignored : ℕ) (w : Passing s at old to out i n ignored) where
+  -- there is room for the lines of the next result, understood or not
+  pub passing-room : length s ≤ byteLimit → to + length (lines (listAt resinfo s at)) < 2 ^ 63 → n + length (turnLines s i) < 2 ^ 64
+  passing-room l h = omega (arith, turn-short s i l, h, w .left .place)
+
+  module _ (new : List ℕ) (t : Turn) (p : TurnPut s i out n new t) where
+    module _ (e m : ℕ) (u : Bool) (q : t ≡ turn.Read e m u) where
+      read : TurnRead s i out n new e m u
+      read = subst (TurnPut s i out n new) q p
+
+      more : listAt resinfo s i ≡ read .result ∷ listAt resinfo s e
+      more = list-more resinfo s i resinfo-within (read .result) e (read .reads)
+
+      same-end : endAt resinfo s e ≡ endAt resinfo s at
+      same-end = sym (end-more resinfo s i resinfo-within (read .result) e (read .reads)) ∙ w .end
+
+      pub passing-further : (i < e) × (e ≤ length s)
+      passing-further = further resinfo s i resinfo-within (read .result) e (read .reads)
+
+      -- it is understood: its lines stay
+      pub passing-shown : u ≡ true → Passing s at old to new e m ignored
+      passing-shown z =
+          let rs = listAt resinfo s e in
+          let k : understood (read .result) ≡ true = sym (read .known) ∙ z in
+          let c = rw (more, ignored-not (read .result) rs k) at (w .count) in
+          record {
+            left = left-step (w .left) (ap lines more ∙ lines-shown (read .result) rs k) (read .wrote);
+            end = same-end;
+            count = c;
+            few = omega (arith, passing-further, w .few);
+          }
+
+      -- it is not: the next lines are written over its own
+      pub passing-ignored : u ≡ false → length old ≤ to + length (lines (listAt resinfo s at)) → Passing s at old to new e n (ignored + 1)
+      passing-ignored z h =
+          let rs = listAt resinfo s e in
+          let k : understood (read .result) ≡ false = sym (read .known) ∙ z in
+          let c = rw (more, ignored-one (read .result) rs k) at (w .count) in
+          let l = left-over (w .left) (omega (arith, h, w .left .place, w .left .long)) (read .wrote) in
+          record {
+            left = rw (more, lines-ignored (read .result) rs k) at l;
+            end = same-end;
+            count = omega (arith, c);
+            few = omega (arith, passing-further, w .few);
+          }
+
+    -- no result comes next
+    module _ (q : t ≡ turn.Missing) where
+      none : (nothing ≡ from resinfo s i) × (new ≡ out)
+      none = subst (TurnPut s i out n new) q p
+
+      pub passed : ResultsPut s at old to new (record { end = i; next = n; ignored = ignored })
+      unfolding lines ignoredOf
+      passed =
+          let h = none .0 in
+          let l = list-none resinfo s i h in
+          let c = rw l at (w .count) in
+          record {
+            end = sym (end-none resinfo s i h) ∙ w .end;
+            ignored = omega (arith, c);
+            wrote = rw (none .1) (left-done (w .left) (rw l));
+          }
+
+      pub passed-long : length new ≡ length old
+      passed-long = ap length (none .1) ∙ w .left .long

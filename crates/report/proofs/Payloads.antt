@@ -1,0 +1,256 @@
+-- What follows the head of a body, by the tests that the code makes in turn: the word none, or results. The code tries the word before
+-- results and the grammar after them, which is the same because the word begins no result. Assumes nothing.
+use Prim.Native.Nat.{ℕ, _+_, _*_, _≤_, _<_, _^_}
+use native.Mathlib.Omega.{arith}
+use mathlib.Core.Path.{_≡_, refl, sym, _∙_}
+use mathlib.Core.Bool.{Bool, true, false}
+use mathlib.Core.List.{List, [], _∷_}
+use borrow.Author.Tests.{leb-true, leb-false}
+use lib.Dec.{leb}
+use lib.ListN.{length, drop, length-drop}
+use Rattle.sequences.specs.Stored.{Wrote}
+use Rattle.sequences.proofs.Booleans.{no-true}
+use Rattle.sequences.proofs.Splices.{sets-out}
+use Rattle.reading.specs.Texts.{bytes, within, same, starts}
+use Rattle.reading.specs.Parsers.{Got, nothing, got, Parser, _>>_, give, when, end, several}
+use Rattle.reading.specs.Places.{from, listAt, endAt}
+use Rattle.reading.specs.Locality.{Within}
+use Rattle.reading.proofs.Sequencing.{no-got, bind-none, pass-not}
+use Rattle.reading.proofs.Bounds.{several-within}
+use Rattle.reading.proofs.Places.{took, none-at, goes-on, stops, gives, passes, fails, end-at, end-not, skipping-at}
+use Rattle.reading.proofs.Repeats.{Turn, stop, turn, several-inv, list-is}
+use Rattle.lexis.specs.Limits.{byteLimit}
+use Rattle.lexis.specs.Bytes.{lower, alike}
+use Rattle.lexis.specs.Pieces.{space, keyword}
+use Rattle.lexis.specs.Words.{keywordText, skip, readKeyword, readWord}
+use Rattle.resinfo.specs.Results.{Result, mark}
+use Rattle.resinfo.specs.Parts.{marked}
+use Rattle.resinfo.specs.Values.{span}
+use Rattle.resinfo.proofs.Marks.{mark-is, mark-reads, keyword-reads, marked-no}
+use Rattle.body.specs.Body.{Reading, malformed, noResult, results, resinfo, resinfos, wordNone, payload}
+use Rattle.body.specs.Report.{line, noneLine, lines}
+use Rattle.body.proofs.Readings.{Payload, neither, word, some, payload-cases, payload-is}
+use Rattle.body.proofs.Sequence.{resinfo-within, Reads, over, more, reads-inv}
+use Rattle.body.proofs.NoResult.{word-no-result}
+use Rattle.report.specs.declared.Reported.{Reported}
+use Rattle.report.specs.declared.results.Results.{Results}
+use Rattle.report.specs.Internal.{succeeds, behindId, refused, Behind, ResultsPut}
+use Rattle.body.proofs.Sizes.{lines-size}
+
+-- ==== whether a parser succeeds at a place
+
+module _ {A : Type 0} (p : Parser A) (s : List ℕ) (at : ℕ) where
+  succeeds-got : (a : A) (e : ℕ) → got a e ≡ from p s at → true ≡ succeeds p (drop at s)
+  unfolding succeeds
+  succeeds-got a e h = let t = took p s at a e h in rw (succeeds, t .is)
+
+  succeeds-none : nothing ≡ from p s at → false ≡ succeeds p (drop at s)
+  unfolding succeeds
+  succeeds-none h = rw (succeeds, none-at p s at h)
+
+-- ==== the word none
+
+-- the word in lower case
+none-lower : (k : List ℕ) → same (keywordText k) (bytes "none") ≡ alike k (bytes "none")
+unfolding alike lower within
+none-lower k = refl
+
+module _ (s : List ℕ) (at a : ℕ) (q : a ≡ at + marked 59 (drop at s)) where
+  pub none-no-mark : a ≡ at → false ≡ succeeds wordNone (drop at s)
+  unfolding wordNone
+  none-no-mark z = succeeds-none wordNone s at (stops (mark 59) _ s at (mark-reads s at 59 .missing a q z))
+
+  module _ (na : a ≡ at → ⊥) (e : ℕ) (p : e ≡ a + keyword (drop a s)) where
+    behind-mark : (x : Got (Unit {0})) → x ≡ from (_>>_ (readWord (bytes "none")) (_>>_ skip end)) s a → x ≡ from wordNone s at
+    unfolding wordNone
+    behind-mark x h = goes-on (mark 59) _ s at tt a x (mark-reads s at 59 .there a q na) h
+
+    pub none-no-word : e ≡ a → false ≡ succeeds wordNone (drop at s)
+    unfolding readWord
+    none-no-word z =
+        succeeds-none wordNone s at
+        (behind-mark nothing (stops (readWord (bytes "none")) _ s a (stops readKeyword _ s a (keyword-reads s a .missing e p z))))
+
+    module _ (ne : e ≡ a → ⊥) (r : Bool) (h : r ≡ alike (span s a e) (bytes "none")) where
+      is-word : (x : Got (Unit {0})) → x ≡ from (when (alike (span s a e) (bytes "none"))) s e → x ≡ from (readWord (bytes "none")) s a
+      unfolding readWord
+      is-word x k = goes-on readKeyword _ s a (keywordText (span s a e)) e x (keyword-reads s a .there e p ne) (rw (none-lower (span s a e)) k)
+
+      pub none-other-word : r ≡ false → false ≡ succeeds wordNone (drop at s)
+      none-other-word t =
+          succeeds-none wordNone s at
+          (behind-mark nothing (stops (readWord (bytes "none")) _ s a (is-word nothing (fails (alike (span s a e) (bytes "none")) s e (sym h ∙ t)))))
+
+      -- the word, and after space the end or something else
+      pub none-word : r ≡ true → (f : ℕ) → f ≡ e + space (drop e s) → leb (length s) f ≡ succeeds wordNone (drop at s)
+      none-word t f g = go (leb (length s) f) refl
+        where
+          behind-word : (x : Got (Unit {0})) → x ≡ from end s f → x ≡ from wordNone s at
+          behind-word x k =
+              behind-mark x
+              (goes-on (readWord (bytes "none")) _ s a tt e x (is-word (got tt e) (passes (alike (span s a e) (bytes "none")) s e (sym h ∙ t)))
+              (goes-on skip _ s e tt f x (skipping-at space s e f g) k))
+
+          go : (b : Bool) → leb (length s) f ≡ b → leb (length s) f ≡ succeeds wordNone (drop at s)
+          go true i = i ∙ succeeds-got wordNone s at tt f (behind-word (got tt f) (end-at s f (leb-true (length s) f i)))
+          go false i = i ∙ succeeds-none wordNone s at (behind-word nothing (end-not s f (leb-false (length s) f i)))
+
+-- ==== a list of results, and where it ends
+
+module _ {A : Type 0} (p : Parser A) (P : Within 1 p) (s : List ℕ) (at : ℕ) where
+  turns : (n : ℕ) → several p 0 (drop at s) ≡ got (listAt p s at) n → Turn p (drop at s) (listAt p s at) n
+  turns n e = several-inv p (drop at s) (listAt p s at) n e
+
+  -- it is empty exactly where it ends at once
+  list-empty : endAt p s at ≡ at → listAt p s at ≡ []
+  list-empty z = let t = took (several p 0) s at (listAt p s at) (endAt p s at) (list-is p s at) in go (t .size) (t .sum) (turns (t .size) (t .is))
+    where
+      go : (n : ℕ) → endAt p s at ≡ at + n → Turn p (drop at s) (listAt p s at) n → listAt p s at ≡ []
+      go n k (stop l i) = l
+      go n k (turn a m l j e f q i) = absurd (omega (arith, P (drop at s) a m e .1))
+
+  list-some : (endAt p s at ≡ at → ⊥) → listAt p s at ≡ [] → ⊥
+  list-some ne z = let t = took (several p 0) s at (listAt p s at) (endAt p s at) (list-is p s at) in go (t .size) (t .sum) (turns (t .size) (t .is))
+    where
+      go : (n : ℕ) → endAt p s at ≡ at + n → Turn p (drop at s) (listAt p s at) n → ⊥
+      go n k (stop l i) = ne (omega arith)
+      go n k (turn a m l j e f q i) = let o : a ∷ l ≡ [] = sym q ∙ z in let b : _≡_ {A = ℕ} 0 1 = cc in omega arith
+
+module _ (s : List ℕ) (at : ℕ) where
+  -- what stands behind them: space, and the end or something else
+  module _ (f : ℕ) (q : f ≡ endAt resinfo s at + space (drop (endAt resinfo s at) s)) where
+    behind-list : (x : Got (List Result)) → x ≡ from (_>>_ end (give (listAt resinfo s at))) s f → x ≡ from resinfos s at
+    unfolding resinfos
+    behind-list x h =
+        goes-on (several resinfo 0) _ s at (listAt resinfo s at) (endAt resinfo s at) x (list-is resinfo s at)
+        (goes-on skip _ s (endAt resinfo s at) tt f x (skipping-at space s (endAt resinfo s at) f q) h)
+
+    list-open : f < length s → resinfos (drop at s) ≡ nothing
+    list-open h = none-at resinfos s at (behind-list nothing (stops end _ s f (end-not s f h)))
+
+    list-closed : length s ≤ f → got (listAt resinfo s at) f ≡ from resinfos s at
+    list-closed h = behind-list _ (goes-on end _ s f tt f _ (end-at s f h) (gives (listAt resinfo s at) s f))
+
+  -- the results of a body are that list
+  list-same : (rs : List Result) (n : ℕ) → resinfos (drop at s) ≡ got rs n → listAt resinfo s at ≡ rs
+  list-same rs n e = go (leb (length s) f) refl
+    where
+      f : ℕ
+      f = endAt resinfo s at + space (drop (endAt resinfo s at) s)
+
+      go : (b : Bool) → leb (length s) f ≡ b → listAt resinfo s at ≡ rs
+      go true i =
+          let t = took resinfos s at (listAt resinfo s at) f (list-closed f refl (leb-true (length s) f i)) in
+          let w : got (listAt resinfo s at) (t .size) ≡ got rs n = sym (t .is) ∙ e in
+          cc
+      go false i = absurd (no-got (sym (list-open f refl (leb-false (length s) f i)) ∙ e))
+
+  -- their lines are no longer than three times the bytes that are read
+  list-size : length s ≤ byteLimit → length (lines (listAt resinfo s at)) ≤ 3 * byteLimit
+  list-size h =
+      let t = took (several resinfo 0) s at (listAt resinfo s at) (endAt resinfo s at) (list-is resinfo s at) in
+      omega (
+        arith,
+        lines-size (drop at s) (listAt resinfo s at) (t .size) (t .is),
+        several-within 1 resinfo resinfo-within (drop at s) (listAt resinfo s at) (t .size) (t .is) .0,
+        length-drop at s,
+      )
+
+-- ==== results or the word none
+
+module _ (xs : List ℕ) where
+  over-no-word : drop (space xs) xs ≡ [] → wordNone xs ≡ nothing
+  unfolding wordNone starts
+  over-no-word z = bind-none (mark 59) _ xs (mark-is 59 xs ∙ pass-not (marked 59) xs (marked-no 59 xs (rw z)))
+
+  -- where the word stands no list of results does, not even an empty one
+  word-no-list : (u : Unit {0}) (n : ℕ) → wordNone xs ≡ got u n → (rs : List Result) → Reads xs rs → ⊥
+  word-no-list u n e rs (over z) = no-got (sym (over-no-word z) ∙ e)
+  word-no-list u n e rs (more h R) = no-got (sym (word-no-result xs u n e) ∙ h)
+
+  payload-none : succeeds wordNone xs ≡ true → payload [] xs ≡ noResult []
+  unfolding succeeds payload
+  payload-none h = go (wordNone xs) refl
+    where
+      alone : (u : Unit {0}) (n : ℕ) → wordNone xs ≡ got u n → (g : Got (List Result)) → resinfos xs ≡ g → payload [] xs ≡ noResult []
+      alone u n e nothing f = rw (payload, f, e)
+      alone u n e (got rs m) f = absurd (word-no-list u n e rs (reads-inv rs xs m f))
+
+      go : (g : Got (Unit {0})) → wordNone xs ≡ g → payload [] xs ≡ noResult []
+      go nothing e = absurd (no-true (rw (succeeds, e) at h))
+      go (got u n) e = alone u n e (resinfos xs) refl
+
+  payload-some : (rs : List Result) (n : ℕ) → resinfos xs ≡ got rs n → (rs ≡ [] → ⊥) → payload [] xs ≡ results [] rs
+  payload-some [] n e ne = absurd (ne refl)
+  payload-some (r ∷ rs) n e ne = payload-is [] xs r rs n e
+
+  module _ (no : succeeds wordNone xs ≡ false) where
+    payload-open : resinfos xs ≡ nothing → payload [] xs ≡ malformed
+    unfolding succeeds payload
+    payload-open f = go (wordNone xs) refl
+      where
+        go : (g : Got (Unit {0})) → wordNone xs ≡ g → payload [] xs ≡ malformed
+        go nothing e = rw (payload, f, e)
+        go (got u n) e = absurd (no-true (sym (rw (succeeds, e) at no)))
+
+    payload-empty : ((rs : List Result) (n : ℕ) → resinfos xs ≡ got rs n → rs ≡ []) → payload [] xs ≡ malformed
+    unfolding payload
+    payload-empty h = go (resinfos xs) refl
+      where
+        go : (g : Got (List Result)) → resinfos xs ≡ g → payload [] xs ≡ malformed
+        go nothing e = payload-open e
+        go (got rs n) e = rw (payload, e, h rs n e)
+
+-- what a body within the limit is handed, with no more room than what it says takes
+abbrev pub Room : List ℕ → Reading → List ℕ → ℕ → Type 0
+Room s x old to = ((length s ≤ byteLimit) × (to ≤ 2 ^ 32)) × (length old ≤ to + length (behindId x))
+
+pub none-fits : (to : ℕ) → to ≤ 2 ^ 32 → to + length noneLine < 2 ^ 64
+unfolding noneLine line
+none-fits to h = let l : length noneLine ≡ 5 = refl in omega arith
+
+-- a body that is not well-formed writes nothing
+pub behind-malformed : {x : Reading} {old new : List ℕ} {to : ℕ} {r : Reported} → x ≡ malformed → r ≡ refused 9 0 → new ≡ old → Behind x old to new r
+behind-malformed m e b = rw m (record { answer = e; bytes = b })
+
+module _ (s : List ℕ) (at : ℕ) (old : List ℕ) (to : ℕ) (r : Bool) (h : r ≡ succeeds wordNone (drop at s)) where
+  pub payload-word : r ≡ true → (new : List ℕ) (n : ℕ) → Wrote old to noneLine new n
+      → Behind (payload [] (drop at s)) old to new (record { number = 0; place = 0; written = n; ignored = 0 })
+  payload-word t new n w = rw (payload-none (drop at s) (sym h ∙ t)) (record { answer = rw (w .place); bytes = w .bytes })
+
+  module _ (room : Room s (payload [] (drop at s)) old to) (f : r ≡ false) where
+    no : succeeds wordNone (drop at s) ≡ false
+    no = sym h ∙ f
+
+    pub payload-room : ((length s ≤ byteLimit) × (length old ≤ to + length (lines (listAt resinfo s at))))
+        × (to + length (lines (listAt resinfo s at)) < 2 ^ 63)
+    payload-room = ((room .0 .0, fits (payload-cases [] (drop at s))), omega (arith, list-size s at (room .0 .0), room .0 .1))
+      where
+        fits : Payload [] (drop at s) → length old ≤ to + length (lines (listAt resinfo s at))
+        fits (neither e) = omega (arith, rw e at (room .1))
+        fits (word n e p) = absurd (no-true (sym no ∙ (unfold succeeds in rw (succeeds, e))))
+        fits (some rs n e p) = rw (list-same s at rs n e) (rw p at (room .1))
+
+    module _ (new : List ℕ) (d : Results) (k : ResultsPut s at old to new d) where
+      pub payload-no-results : d .end ≡ at → (x : Reported) → x ≡ refused 9 0 → Behind (payload [] (drop at s)) old to new x
+      unfolding lines
+      payload-no-results z x e =
+          let l : listAt resinfo s at ≡ [] = list-empty resinfo resinfo-within s at (sym (k .end) ∙ z) in
+          let b : new ≡ old = rw l at (k .wrote .bytes) in
+          behind-malformed (payload-empty (drop at s) no (λ rs n p. sym (list-same s at rs n p) ∙ l)) e b
+
+      module _ (g : ℕ) (q : g ≡ d .end + space (drop (d .end) s)) where
+        ends : g ≡ endAt resinfo s at + space (drop (endAt resinfo s at) s)
+        ends = rw (k .end) at q
+
+        pub payload-not-ended : g < length s → (x : Reported) → x ≡ refused 9 0 → Behind (payload [] (drop at s)) old to new x
+        payload-not-ended l x e =
+            let m = payload-open (drop at s) no (list-open s at g ends l) in
+            behind-malformed m e (k .wrote .bytes ∙ sets-out old to (lines (listAt resinfo s at)) (omega (arith, rw m at (room .1))))
+
+        pub payload-results : (d .end ≡ at → ⊥) → length s ≤ g
+            → Behind (payload [] (drop at s)) old to new (record { number = 0; place = 0; written = d .next; ignored = d .ignored })
+        payload-results ne l =
+            let t = took resinfos s at (listAt resinfo s at) g (list-closed s at g ends l) in
+            let p = payload-some (drop at s) (listAt resinfo s at) (t .size) (t .is) (list-some resinfo resinfo-within s at (λ z. ne (k .end ∙ z))) in
+            rw p (record { answer = rw (k .wrote .place, k .ignored); bytes = k .wrote .bytes })

@@ -1,0 +1,357 @@
+-- One result, read and written: what the code finds of its reason, its properties and its method is what the parsers yield there, and
+-- the lines that it writes are the lines of that. By the theorems of crate `resinfo` on what was found. Assumes nothing.
+use Prim.Native.Nat.{ℕ, _+_, _≤_, _<_, _^_}
+use native.Mathlib.Omega.{arith}
+use mathlib.Core.Path.{_≡_, refl, sym, ap, _∙_, subst}
+use mathlib.Core.Bool.{Bool, true, false, _&&_, and-true, and-assoc}
+use mathlib.Core.List.{List, _∷_, _++_, map}
+use mathlib.Core.Option.{none, some}
+use lib.ListN.{length, drop, length-append}
+use lib.Seq.{drop-drop}
+use Rattle.sequences.specs.Stored.{Wrote}
+use Rattle.sequences.proofs.Splices.{wrote-none, wrote-then, Left, left-start, left-step, left-done}
+use Rattle.reading.specs.Parsers.{Got, nothing, got, Parser, _>>=_, give, byte, optional, several}
+use Rattle.reading.specs.Places.{from, listAt, endAt}
+use Rattle.reading.proofs.Sequencing.{byte-is, byte-not}
+use Rattle.reading.proofs.Places.{at-got, at-none, goes-on, stops, gives, skipping-at, one-more, none-there}
+use Rattle.reading.proofs.Repeats.{list-is, list-none, end-none, further, list-more, end-more}
+use Rattle.lexis.specs.Bytes.{lower}
+use Rattle.lexis.specs.Pieces.{space}
+use Rattle.lexis.specs.Words.{keywordText, skip}
+use Rattle.authserv.specs.Answers.{textOf}
+use Rattle.resinfo.specs.declared.Step.{Step}
+use Rattle.resinfo.specs.declared.Step.the-variants as step
+use Rattle.resinfo.specs.declared.parts.Label.{Label}
+use Rattle.resinfo.specs.declared.parts.Label.the-variants as label
+use Rattle.resinfo.specs.declared.parts.Method.the-variants as method
+use Rattle.resinfo.specs.declared.parts.Reason.the-variants.{Stated, Absent}
+use Rattle.resinfo.specs.declared.value.Found.{Found}
+use Rattle.resinfo.specs.declared.value.Found.the-variants as found
+use Rattle.resinfo.specs.declared.value.Value as place
+use Rattle.resinfo.specs.declared.value.Value.the-variants as at
+use Rattle.resinfo.specs.Results.{Property, Result, next, reason, property, methodspec, result}
+use Rattle.resinfo.specs.Values.{span, valueOf, valueAt}
+use Rattle.resinfo.specs.Parts.{marked, methodAt, reasonAt, reasonGot, labelAt}
+use Rattle.resinfo.specs.Steps.{closes, endOf, propertyOf, stepOf, stepAt, propertyGot}
+use Rattle.resinfo.specs.Table.{listed, tabled, table, ptypes, knownVersion, knownMethod, knownTypes, understood}
+use Rattle.resinfo.proofs.Marks.{marked-yes, marked-no}
+use Rattle.resinfo.proofs.Methods.{method-found, method-not}
+use Rattle.resinfo.proofs.Reasons.{reason-got}
+use Rattle.resinfo.proofs.Steps.{step-got}
+use Rattle.resinfo.proofs.PartPlaces.{method-places, reason-places, label-places}
+use Rattle.resinfo.proofs.ValueInside.{Spans, value-inside}
+use Rattle.resinfo.proofs.Results.{property-within}
+use Rattle.body.specs.Body.{resinfo}
+use Rattle.body.specs.Report.{methodLine, reasonLine, propertyLine, propertyLines, resultLines}
+use Rattle.report.specs.declared.results.Details.{Details}
+use Rattle.report.specs.declared.results.Stated as stated
+use Rattle.report.specs.Internal.{Stands, methodText, reasonText, propertyText, optionAt, optionEnd, propertiesAt, detailLines, turnLines, PropertiesPut, ReasonPut, DetailsPut, TurnRead}
+
+-- ==== a part that may be missing
+
+module _ {A : Type 0} (p : Parser A) (s : List ℕ) (i : ℕ) where
+  option-some : (a : A) (e : ℕ) → got a e ≡ from p s i → optionAt p s i ≡ some a
+  unfolding optionAt
+  option-some a e h = rw (optionAt, ← h)
+
+  end-some : (a : A) (e : ℕ) → got a e ≡ from p s i → optionEnd p s i ≡ e
+  unfolding optionEnd
+  end-some a e h = rw (optionEnd, ← h)
+
+  option-missing : nothing ≡ from p s i → optionAt p s i ≡ none
+  unfolding optionAt
+  option-missing h = rw (optionAt, ← h)
+
+  end-missing : nothing ≡ from p s i → optionEnd p s i ≡ i
+  unfolding optionEnd
+  end-missing h = rw (optionEnd, ← h)
+
+  option-is : got (optionAt p s i) (optionEnd p s i) ≡ from (optional p) s i
+  option-is = go (from p s i) refl
+    where
+      go : (g : Got A) → from p s i ≡ g → got (optionAt p s i) (optionEnd p s i) ≡ from (optional p) s i
+      go nothing e = rw (option-missing (sym e), end-missing (sym e)) (none-there p s i (sym e))
+      go (got a n) e = rw (option-some a n (sym e), end-some a n (sym e)) (one-more p s i a n (sym e))
+
+-- ==== the reason
+
+module _ (s : List ℕ) (i : ℕ) where
+  reason-found : (a e : ℕ) (q : Bool) → Stated a e q ≡ reasonAt s i → got (textOf s a e q) e ≡ from reason s i
+  reason-found a e true h = ap (reasonGot s) h ∙ reason-got s i
+  reason-found a e false h = ap (reasonGot s) h ∙ reason-got s i
+
+  module _ (a e : ℕ) (q : Bool) (h : Stated a e q ≡ reasonAt s i) where
+    -- its text stands inside, and its line is the reason's
+    pub reason-room : (to : ℕ) → to + length (reasonLine (optionAt reason s i)) < 2 ^ 64
+        → ((a < e) × (e ≤ length s)) × (to + length (reasonText s a e q) < 2 ^ 64)
+    reason-room to l =
+        let p = reason-places s i a e q h in
+        let k : to + length (reasonText s a e q) < 2 ^ 64 = rw (option-some reason s i (textOf s a e q) e (reason-found a e q h)) at l in
+        ((p .value, p .inside), k)
+
+    pub reason-put : (old new : List ℕ) (to n : ℕ) → Wrote old to (reasonText s a e q) new n → ReasonPut s i old to new (record { end = e; next = n })
+    reason-put old new to n w =
+        let f = reason-found a e q h in
+        record { end = sym (end-some reason s i (textOf s a e q) e f); wrote = rw (option-some reason s i (textOf s a e q) e f) w }
+
+  pub reason-absent : Absent ≡ reasonAt s i → (old : List ℕ) (to : ℕ) → ReasonPut s i old to old (record { end = i; next = to })
+  unfolding reasonLine
+  reason-absent h old to =
+      let f : nothing ≡ from reason s i = ap (reasonGot s) h ∙ reason-got s i in
+      record { end = sym (end-missing reason s i f); wrote = rw (option-missing reason s i f) (wrote-none old to) }
+
+-- ==== properties
+
+-- a value that was found from one place up to another stands there
+value-stands : (s : List ℕ) (v : place.Value) (a e : ℕ) → Spans v a e → a < e → e ≤ length s → Stands s v
+value-stands s (at.Token b f) a e h l m = (omega (arith, h), omega (arith, h))
+value-stands s (at.Quoted b f) a e h l m = (omega (arith, h), omega (arith, h))
+value-stands s (at.Mailbox b n f q) a e h l m = (omega (arith, h), (omega (arith, h), omega (arith, h)))
+value-stands s (at.AtDomain b f) a e h l m = (omega (arith, h), omega (arith, h))
+
+-- a ptype from a up to e, a property from b up to f and a value stand inside
+pub record PropertyPlaces (s : List ℕ) (a e b f : ℕ) (v : place.Value) : Type 0 where
+  pub ptype : a < e
+  pub typed : e ≤ length s
+  pub name : b < f
+  pub named : f ≤ length s
+  pub value : Stands s v
+
+abbrev PropertyStands : List ℕ → Step → Type 0
+PropertyStands s (step.Property a e b f v x) = PropertyPlaces s a e b f v
+PropertyStands s step.Done = Unit
+PropertyStands s step.Refused = Unit
+
+module _ (s : List ℕ) (i : ℕ) where
+  property-stands : PropertyStands s (stepAt s i)
+  property-stands = go (labelAt s i) refl
+    where
+      ends : (c : Bool) → PropertyStands s (endOf c)
+      ends true = tt
+      ends false = tt
+
+      valued : (a e b f k : ℕ) → label.Read a e b f k ≡ labelAt s i → (x : Found) → valueAt s k ≡ x → PropertyStands s (propertyOf a e b f x)
+      valued a e b f k h found.Refused j = tt
+      valued a e b f k h (found.Read v x) j =
+          let p = label-places s i a e b f k h in
+          let w = value-inside s k v x (sym j) in
+          record {
+            ptype = p .ptype;
+            typed = omega (arith, p .dot, p .property, p .equals, p .inside);
+            name = p .property;
+            named = omega (arith, p .equals, p .inside);
+            value = value-stands s v k x (w .0) (w .1 .0) (w .1 .1);
+          }
+
+      go : (l : Label) → labelAt s i ≡ l → PropertyStands s (stepOf s i l)
+      go label.Missing h = ends (closes (drop i s))
+      go (label.Read a e b f k) h = valued a e b f k (sym h) (valueAt s k) refl
+
+  pub property-places : (a e b f : ℕ) (v : place.Value) (x : ℕ) → step.Property a e b f v x ≡ stepAt s i → PropertyPlaces s a e b f v
+  property-places a e b f v x h = subst (λ (r : Step). PropertyStands s r) (sym h) property-stands
+
+abbrev propertyOn : List ℕ → ℕ → ℕ → ℕ → ℕ → place.Value → Property
+propertyOn s a e b f v = record { ptype = keywordText (span s a e); property = keywordText (span s b f); value = valueOf s v }
+
+lines-more : (p : Property) (ps : List Property) → propertyLines (p ∷ ps) ≡ propertyLine p ++ propertyLines ps
+unfolding propertyLines
+lines-more p ps = refl
+
+types-more : (p : Property) (ps : List Property) → knownTypes (p ∷ ps) ≡ (listed ptypes (p .ptype) && knownTypes ps)
+unfolding knownTypes
+types-more p ps = refl
+
+-- the loop over the properties behind a place stands at i: what is left to read and to write ends as the whole would have
+pub record Writing (s : List ℕ) (at : ℕ) (old : List ℕ) (to : ℕ) (out : List ℕ) (i n : ℕ) (known : Bool) : Type 0 where
+  pub left : Left old to (propertyLines (listAt property s at)) out n (propertyLines (listAt property s i))
+  pub end : endAt property s i ≡ endAt property s at
+  pub types : (known && knownTypes (listAt property s i)) ≡ knownTypes (listAt property s at)
+
+pub writing-start : (s : List ℕ) (at : ℕ) (old : List ℕ) (to : ℕ) → Writing s at old to old at to true
+writing-start s at old to = record { left = left-start _ _ _; end = refl; types = refl }
+
+module _ (s : List ℕ) (at : ℕ) (old : List ℕ) (to : ℕ) (out : List ℕ) (i n : ℕ) (known : Bool) (w : Writing s at old to out i n known) where
+  module _ (a e b f : ℕ) (v : place.Value) (x : ℕ) (h : step.Property a e b f v x ≡ stepAt s i) where
+    read : got (propertyOn s a e b f v) x ≡ from property s i
+    read = ap (propertyGot s) h ∙ step-got s i
+
+    more : listAt property s i ≡ propertyOn s a e b f v ∷ listAt property s x
+    more = list-more property s i property-within (propertyOn s a e b f v) x read
+
+    split : propertyLines (listAt property s i) ≡ propertyText s a e b f v ++ propertyLines (listAt property s x)
+    split = ap propertyLines more ∙ lines-more (propertyOn s a e b f v) (listAt property s x)
+
+    pub writing-further : (i < x) × (x ≤ length s)
+    writing-further = further property s i property-within (propertyOn s a e b f v) x read
+
+    -- there is room for its line
+    pub writing-room : to + length (propertyLines (listAt property s at)) < 2 ^ 64
+        → (((a ≤ e) × (e ≤ length s)) × ((b ≤ f) × (f ≤ length s))) × (Stands s v × (n + length (propertyText s a e b f v) < 2 ^ 64))
+    writing-room l =
+        let p = property-places s i a e b f v x h in
+        let k = length-append (propertyText s a e b f v) (propertyLines (listAt property s x)) in
+        (((omega (arith, p .ptype), p .typed), (omega (arith, p .name), p .named)), (p .value, omega (arith, l, k, ap length split, w .left .place)))
+
+    pub writing-more : (t : Bool) → t ≡ (known && listed ptypes (map lower (span s a e))) → (out′ : List ℕ) (m : ℕ)
+        → Wrote out n (propertyText s a e b f v) out′ m → Writing s at old to out′ x m t
+    writing-more t q out′ m u =
+        let g = propertyOn s a e b f v in
+        let ps = listAt property s x in
+        let k : knownTypes (listAt property s i) ≡ (listed ptypes (g .ptype) && knownTypes ps) = ap knownTypes more ∙ types-more g ps in
+        record {
+          left = left-step (w .left) split u;
+          end = sym (end-more property s i property-within g x read) ∙ w .end;
+          types = rw q (and-assoc known (listed ptypes (g .ptype)) (knownTypes ps) ∙ rw k at (w .types));
+        }
+
+  written : nothing ≡ from property s i → PropertiesPut s at old to out (record { end = i; next = n; known = known })
+  unfolding propertyLines knownTypes
+  written h =
+      let l = list-none property s i h in
+      record {
+        end = sym (end-none property s i h) ∙ w .end;
+        known = sym (and-true known) ∙ rw l at (w .types);
+        wrote = left-done (w .left) (rw l);
+      }
+
+  -- no property comes next, whether or not the result may end there
+  pub written-done : step.Done ≡ stepAt s i → PropertiesPut s at old to out (record { end = i; next = n; known = known })
+  written-done h = written (ap (propertyGot s) h ∙ step-got s i)
+
+  pub written-refused : step.Refused ≡ stepAt s i → PropertiesPut s at old to out (record { end = i; next = n; known = known })
+  written-refused h = written (ap (propertyGot s) h ∙ step-got s i)
+
+-- ==== reason and properties
+
+module _ (s : List ℕ) (i : ℕ) (to : ℕ) (l : to + length (detailLines s i) < 2 ^ 64) where
+  details-long : length (detailLines s i) ≡ length (reasonLine (optionAt reason s i)) + length (propertyLines (propertiesAt s i))
+  details-long = length-append (reasonLine (optionAt reason s i)) (propertyLines (propertiesAt s i))
+
+  -- there is room for the line of the reason, and then for those of the properties
+  pub details-room : to + length (reasonLine (optionAt reason s i)) < 2 ^ 64
+  details-room = omega (arith, l, details-long)
+
+  pub details-rest : (old new : List ℕ) (r : stated.Stated) → ReasonPut s i old to new r
+      → r .next + length (propertyLines (listAt property s (r .end))) < 2 ^ 64
+  details-rest old new r p = rw (p .end) (omega (arith, l, details-long, p .wrote .place))
+
+pub details-put : (s : List ℕ) (i : ℕ) (old mid new : List ℕ) (to : ℕ) (r : stated.Stated) (d : Details) → ReasonPut s i old to mid r
+    → PropertiesPut s (r .end) mid (r .next) new d → DetailsPut s i old to new d
+details-put s i old mid new to r d p q =
+    record {
+      end = q .end ∙ ap (endAt property s) (p .end);
+      known = q .known ∙ ap (λ (k : ℕ). knownTypes (listAt property s k)) (p .end);
+      wrote = wrote-then (p .wrote) (rw (p .end) at (q .wrote));
+    }
+
+-- ==== a whole result
+
+-- the result behind its mark
+abbrev behindMark : Parser Result
+behindMark =
+    _>>=_ methodspec (λ m. _>>=_ (optional reason) (λ r. _>>=_ (several property 0) (λ ps. give (record { methodspec = m; reason = r; properties = ps }))))
+
+-- where the space behind a place ends
+abbrev spaced : List ℕ → ℕ → ℕ
+spaced s i = i + space (drop i s)
+
+module _ (s : List ℕ) (i : ℕ) where
+  -- ";" does not come next behind the space
+  unmarked : next 59 (drop (spaced s i) s) ≡ false → (marked 59 (drop i s) ≡ 0) × (nothing ≡ from resinfo s i)
+  unfolding resinfo result
+  unmarked t =
+      let b = spaced s i in
+      let m : marked 59 (drop i s) ≡ 0 = marked-no 59 (drop i s) (rw (drop-drop (space (drop i s)) i s) t) in
+      (m, goes-on skip _ s i tt b nothing (skipping-at space s i b refl) (stops (byte 59) _ s b (at-none (byte 59) s b (byte-not 59 (drop b s) t))))
+
+  -- it does: how far the mark reaches, and the result from there on
+  mark-size : next 59 (drop (spaced s i) s) ≡ true → i + marked 59 (drop i s) ≡ spaced s (spaced s i + 1)
+  mark-size t =
+      let n = space (drop i s) in
+      let y = marked-yes 59 (drop i s) (rw (drop-drop n i s) t) in
+      let j : i + (n + 1) ≡ spaced s i + 1 = omega arith in
+      let d : space (drop (n + 1) (drop i s)) ≡ space (drop (spaced s i + 1) s) = rw (drop-drop (n + 1) i s, j) in
+      omega (arith, y, d)
+
+  marks : next 59 (drop (spaced s i) s) ≡ true → (a : ℕ) → a ≡ i + marked 59 (drop i s) → (x : Got Result) → x ≡ from behindMark s a
+      → x ≡ from resinfo s i
+  unfolding resinfo result
+  marks t a q x h =
+      let b = spaced s i in
+      goes-on skip _ s i tt b x (skipping-at space s i b refl)
+      (goes-on (byte 59) _ s b tt (b + 1) x (at-got (byte 59) s b tt 1 (b + 1) (byte-is 59 (drop b s) t) refl)
+      (goes-on skip _ s (b + 1) tt a x (skipping-at space s (b + 1) a (q ∙ mark-size t)) h))
+
+module _ (s : List ℕ) (i a : ℕ) (q : a ≡ i + marked 59 (drop i s)) where
+  -- where there is no mark there is no result
+  pub no-mark : a ≡ i → nothing ≡ from resinfo s i
+  no-mark z = go (next 59 (drop (spaced s i) s)) refl
+    where
+      go : (t : Bool) → next 59 (drop (spaced s i) s) ≡ t → nothing ≡ from resinfo s i
+      go true t = absurd (omega (arith, mark-size s i t))
+      go false t = unmarked s i t .1
+
+  at-mark : (a ≡ i → ⊥) → (x : Got Result) → x ≡ from behindMark s a → x ≡ from resinfo s i
+  at-mark ne x h = go (next 59 (drop (spaced s i) s)) refl
+    where
+      go : (t : Bool) → next 59 (drop (spaced s i) s) ≡ t → x ≡ from resinfo s i
+      go true t = marks s i t a q x h
+      go false t = absurd (ne (omega (arith, unmarked s i t .0)))
+
+  module _ (ne : a ≡ i → ⊥) where
+    -- nor where there is no method behind it
+    pub no-method : method.Missing ≡ methodAt s a → nothing ≡ from resinfo s i
+    no-method h = at-mark ne nothing (stops methodspec _ s a (at-none methodspec s a (method-not s a h)))
+
+    module _ (b e : ℕ) (o : Bool) (f g : ℕ) (h : method.Read b e o f g ≡ methodAt s a) where
+      -- the result that stands there
+      abbrev whole : Result
+      whole = record { methodspec = method-found s a b e o f g h .spec; reason = optionAt reason s g; properties = propertiesAt s g }
+
+      read-whole : got whole (endAt property s (optionEnd reason s g)) ≡ from resinfo s i
+      read-whole =
+          let m = method-found s a b e o f g h in
+          let k = optionEnd reason s g in
+          let n = endAt property s k in
+          at-mark ne (got whole n)
+          (goes-on methodspec _ s a (m .spec) g (got whole n) (m .reads)
+          (goes-on (optional reason) _ s g (optionAt reason s g) k (got whole n) (option-is reason s g)
+          (goes-on (several property 0) _ s k (propertiesAt s g) n (got whole n) (list-is property s k) (gives whole s n))))
+
+      lines-whole : resultLines whole ≡ methodText s b e f g ++ detailLines s g
+      unfolding resultLines methodLine
+      lines-whole = let m = method-found s a b e o f g h in rw (m .method, m .result)
+
+      known-whole : understood whole ≡ (o && tabled table (map lower (span s b e)) (map lower (span s f g)) && knownTypes (propertiesAt s g))
+      unfolding understood knownMethod knownVersion
+      known-whole = let m = method-found s a b e o f g h in rw (m .method, m .result, m .one)
+
+      lines-turn : turnLines s i ≡ methodText s b e f g ++ detailLines s g
+      unfolding turnLines
+      lines-turn = rw (turnLines, ← read-whole) lines-whole
+
+      turn-long : length (turnLines s i) ≡ length (methodText s b e f g) + length (detailLines s g)
+      turn-long = ap length lines-turn ∙ length-append (methodText s b e f g) (detailLines s g)
+
+      -- there is room for the line of the method, and then for the others
+      pub turn-room : (to : ℕ) → to + length (turnLines s i) < 2 ^ 64
+          → (((b ≤ e) × (e ≤ length s)) × ((f ≤ g) × (g ≤ length s))) × (to + length (methodText s b e f g) < 2 ^ 64)
+      turn-room to l =
+          let p = method-places s a b e o f g h in
+          let k : e ≤ length s = omega (arith, p .after, p .result, p .inside) in
+          (((omega (arith, p .method), k), (omega (arith, p .result), p .inside)), omega (arith, l, turn-long))
+
+      pub turn-rest : (to : ℕ) → to + length (turnLines s i) < 2 ^ 64 → (old new : List ℕ) (n : ℕ) → Wrote old to (methodText s b e f g) new n
+          → n + length (detailLines s g) < 2 ^ 64
+      turn-rest to l old new n w = omega (arith, l, turn-long, w .place)
+
+      pub turn-read : (t : Bool) → t ≡ (o && tabled table (map lower (span s b e)) (map lower (span s f g))) → (old mid new : List ℕ) (to n : ℕ) (d : Details)
+          → Wrote old to (methodText s b e f g) mid n → DetailsPut s g mid n new d → (u : Bool) → u ≡ (t && d .known)
+          → TurnRead s i old to new (d .end) (d .next) u
+      turn-read t q old mid new to n d w p u r =
+          record {
+            result = whole;
+            reads = ap (λ (z : ℕ). got whole z) (p .end) ∙ read-whole;
+            known = r ∙ (rw (q, p .known) (sym known-whole));
+            wrote = rw lines-whole (wrote-then w (p .wrote));
+          }

@@ -1,0 +1,69 @@
+-- `report::put_payload` meets its contract: the word none is the only reading where it is there, and else the list of results is, where
+-- it is not empty and the end follows. Assumes nothing.
+use Rattle.report.proofs.Payloads.{none-fits, payload-word, payload-room, payload-no-results, payload-not-ended, payload-results}
+use borrow.Author.Needs.{needs}
+use Rattle.report.proofs.put_payload.Statement.{statement}
+use Rattle.report.proofs.put_payload.Tie as tie
+
+says-none-requires : tie.Need-says-none-requires
+says-none-requires c κs = search needs
+
+put-none-requires : tie.Need-put-none-requires
+put-none-requires c κs = search none-fits
+
+same-length : tie.Need-same-length
+same-length c = search needs
+
+returns : tie.Need-returns
+returns c = search payload-word
+
+put-results-requires : tie.Need-put-results-requires
+put-results-requires c κs =
+    payload-room _ _ (c .before .before .before .before .before .args .out .now) _ _ (c .before .before .says-none .ensures)
+    (c .before .before .before .before .before .pre) (c .before .if1 .left)
+
+refuse-requires : tie.Need-refuse-requires
+refuse-requires c κs = search needs
+
+same-length-2 : tie.Need-same-length-2
+same-length-2 c = search needs
+
+returns-2 : tie.Need-returns-2
+returns-2 c = search payload-no-results
+
+space-end-requires : tie.Need-space-end-requires
+space-end-requires c κs = search needs
+
+refuse-requires-2 : tie.Need-refuse-requires-2
+refuse-requires-2 c κs = search needs
+
+same-length-3 : tie.Need-same-length-3
+same-length-3 c = search needs
+
+returns-3 : tie.Need-returns-3
+returns-3 c = search payload-not-ended
+
+same-length-4 : tie.Need-same-length-4
+same-length-4 c = search needs
+
+returns-4 : tie.Need-returns-4
+returns-4 c = search payload-results
+
+pub put-payload-spec : {M : Type 1} → statement M
+put-payload-spec =
+    tie.close
+    (tie.spec
+    says-none-requires
+    put-none-requires
+    same-length
+    returns
+    put-results-requires
+    refuse-requires
+    same-length-2
+    returns-2
+    space-end-requires
+    refuse-requires-2
+    same-length-3
+    returns-3
+    same-length-4
+    returns-4)

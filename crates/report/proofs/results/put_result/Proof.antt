@@ -1,0 +1,97 @@
+-- `report::results::put_result` meets its contract: the mark, the method and what stands behind it are the result. Assumes nothing.
+use native.Mathlib.Omega.{arith}
+use mathlib.Core.Path.{_≡_, refl, sym, _∙_}
+use borrow.Author.Needs.{needs}
+use Rattle.resinfo.specs.declared.parts.Method.the-variants.{Read}
+use Rattle.resinfo.specs.Parts.{methodAt}
+use Rattle.resinfo.proofs.PartPlaces.{MethodPlaces, method-places}
+use Rattle.report.proofs.Turns.{no-mark, no-method, turn-room, turn-rest, turn-read}
+use Rattle.report.proofs.results.put_result.Statement.{statement}
+use Rattle.report.proofs.results.put_result.Tie as tie
+
+-- the method that was found, and where it stands
+found : (c : tie.After-known-told)
+    → Read (c .before .start .given .0 .0) (c .before .start .given .0 .1 .0) (c .before .start .given .0 .1 .1 .0) (c .before .start .given .0 .1 .1 .1 .0) (c .before .start .given .0 .1 .1 .1 .1 .0)
+    ≡ methodAt (c .before .before .before .before .before .before .before .before .args .s .now) (c .before .before .before .before .before .mark-end .result)
+found c = sym (c .before .start .given .1) ∙ c .before .before .before .method-at .ensures
+
+near : (c : tie.After-known-told)
+    → MethodPlaces (c .before .before .before .before .before .before .before .before .args .s .now) (c .before .before .before .before .before .mark-end .result) (c .before .start .given .0 .0) (c .before .start .given .0 .1 .0) (c .before .start .given .0 .1 .1 .1 .0) (c .before .start .given .0 .1 .1 .1 .1 .0)
+near c = method-places _ _ _ _ _ _ _ (found c)
+
+mark-end-requires : tie.Need-mark-end-requires
+mark-end-requires c κs = search needs
+
+returns : tie.Need-returns
+returns c = (no-mark _ _ _ (c .before .mark-end .ensures) (c .if1 .taken), refl)
+
+method-at-requires : tie.Need-method-at-requires
+method-at-requires c κs = search needs
+
+enum-known-start : tie.Need-enum-known-start
+enum-known-start c = search needs
+
+sub-knows-method : tie.Need-sub-knows-method
+sub-knows-method c = omega (arith, near c)
+
+part-knows-method-start : tie.Need-part-knows-method-start
+part-knows-method-start c = omega (arith, near c)
+
+part-knows-method-end : tie.Need-part-knows-method-end
+part-knows-method-end c = omega (arith, near c)
+
+sub-knows-method-2 : tie.Need-sub-knows-method-2
+sub-knows-method-2 c = omega (arith, near (c .before))
+
+part-knows-method-start-2 : tie.Need-part-knows-method-start-2
+part-knows-method-start-2 c = omega (arith, near (c .before))
+
+part-knows-method-end-2 : tie.Need-part-knows-method-end-2
+part-knows-method-end-2 c = omega (arith, near (c .before))
+
+knows-method-requires : tie.Need-knows-method-requires
+knows-method-requires c κs = search needs
+
+put-method-requires : tie.Need-put-method-requires
+put-method-requires c κs = turn-room _ _ _ (c .before .before .before .before .before .before .before .before .before .mark-end .ensures) (c .before .before .before .before .before .before .before .before .if1 .left) _ _ _ _ _ (found (c .before .before .before .before)) _ (c .before .before .before .before .before .before .before .before .before .before .before .before .pre)
+
+put-details-requires : tie.Need-put-details-requires
+put-details-requires c κs = turn-rest _ _ _ (c .before .before .before .before .before .before .before .before .before .before .before .before .before .mark-end .ensures) (c .before .before .before .before .before .before .before .before .before .before .before .before .if1 .left) _ _ _ _ _ (found (c .before .before .before .before .before .before .before .before)) _ (c .before .before .before .before .before .before .before .before .before .before .before .before .before .before .before .before .pre) _ _ _ (c .before .before .before .put-method .ensures)
+
+both-requires : tie.Need-both-requires
+both-requires c κs = search needs
+
+enum-told : tie.Need-enum-told
+enum-told c = search needs
+
+same-length : tie.Need-same-length
+same-length c = search needs
+
+returns-2 : tie.Need-returns-2
+returns-2 c = turn-read _ _ _ (c .before .before .before .before .before .before .before .before .before .before .before .before .before .before .before .before .before .mark-end .ensures) (c .before .before .before .before .before .before .before .before .before .before .before .before .before .before .before .before .if1 .left) _ _ _ _ _ (found (c .before .before .before .before .before .before .before .before .before .before .before .before)) _ (c .before .before .before .before .before .before .before .before .before .knows-method .ensures) _ _ _ _ _ _ (c .before .before .before .before .before .before .before .put-method .ensures) (c .before .before .before .put-details .ensures) _ (c .both .ensures)
+
+returns-3 : tie.Need-returns-3
+returns-3 c = (no-method _ _ _ (c .before .before .before .before .mark-end .ensures) (c .before .before .before .if1 .left) (sym (c .enum-told .given .1) ∙ c .before .before .method-at .ensures), refl)
+
+pub put-result-spec : {M : Type 1} → statement M
+put-result-spec =
+    tie.close
+    (tie.spec
+    mark-end-requires
+    returns
+    method-at-requires
+    enum-known-start
+    sub-knows-method
+    part-knows-method-start
+    part-knows-method-end
+    sub-knows-method-2
+    part-knows-method-start-2
+    part-knows-method-end-2
+    knows-method-requires
+    put-method-requires
+    put-details-requires
+    both-requires
+    enum-told
+    same-length
+    returns-2
+    returns-3)

@@ -1,0 +1,58 @@
+-- `report::write::put_method` meets its contract: the columns one after another are the whole line. Assumes nothing.
+use borrow.Author.Needs.{needs}
+use Rattle.report.proofs.Columns.{methodOf, lineEnd, method-opens, keywords-first, keywords-second, keywords-third, keywords-last, keywords-wrote}
+use Rattle.report.proofs.write.put_method.Statement.{statement}
+use Rattle.report.proofs.write.put_method.Tie as tie
+
+put-requires : tie.Need-put-requires
+put-requires c κs = search (keywords-first methodOf 109 lineEnd method-opens tt)
+
+sub-put-keyword : tie.Need-sub-put-keyword
+sub-put-keyword c = search needs
+
+part-put-keyword-start : tie.Need-part-put-keyword-start
+part-put-keyword-start c = search needs
+
+part-put-keyword-end : tie.Need-part-put-keyword-end
+part-put-keyword-end c = search needs
+
+put-keyword-requires : tie.Need-put-keyword-requires
+put-keyword-requires c κs = search (keywords-second methodOf 109 lineEnd method-opens tt)
+
+sub-put-keyword-2 : tie.Need-sub-put-keyword-2
+sub-put-keyword-2 c = search needs
+
+part-put-keyword-start-2 : tie.Need-part-put-keyword-start-2
+part-put-keyword-start-2 c = search needs
+
+part-put-keyword-end-2 : tie.Need-part-put-keyword-end-2
+part-put-keyword-end-2 c = search needs
+
+put-keyword-requires-2 : tie.Need-put-keyword-requires-2
+put-keyword-requires-2 c κs = search (keywords-third methodOf 109 lineEnd method-opens tt)
+
+put-requires-2 : tie.Need-put-requires-2
+put-requires-2 c κs = search (keywords-last methodOf 109 lineEnd method-opens tt)
+
+same-length : tie.Need-same-length
+same-length c = search needs
+
+returns : tie.Need-returns
+returns c = search (keywords-wrote methodOf 109 lineEnd method-opens tt)
+
+pub put-method-spec : {M : Type 1} → statement M
+put-method-spec =
+    tie.close
+    (tie.spec
+    put-requires
+    sub-put-keyword
+    part-put-keyword-start
+    part-put-keyword-end
+    put-keyword-requires
+    sub-put-keyword-2
+    part-put-keyword-start-2
+    part-put-keyword-end-2
+    put-keyword-requires-2
+    put-requires-2
+    same-length
+    returns)

@@ -1,0 +1,162 @@
+-- What private functions say: no public contract cites these. Assumes nothing: these are definitions.
+use Prim.Native.Nat.{ℕ, _+_, _≤_, _<_}
+use mathlib.Core.Path.{_≡_}
+use mathlib.Core.Bool.{Bool, true, false}
+use mathlib.Core.List.{List, [], _∷_, _++_}
+use mathlib.Core.Option.{Option, none, some}
+use lib.ListN.{length, drop}
+use lib.Seq.{sets}
+use Rattle.sequences.specs.Stored.{Wrote}
+use Rattle.reading.specs.Texts.{bytes, follows}
+use Rattle.reading.specs.Parsers.{nothing, got, Parser, optional}
+use Rattle.reading.specs.Places.{from, listAt, endAt}
+use Rattle.lexis.specs.declared.Class.the-variants.{Delimiter}
+use Rattle.lexis.specs.Bytes.{inClass}
+use Rattle.lexis.specs.Words.{keywordText}
+use Rattle.authserv.specs.Answers.{textOf}
+use Rattle.authserv.specs.Version.{stated}
+use Rattle.resinfo.specs.declared.value.Value as place
+use Rattle.resinfo.specs.declared.value.Value.the-variants as at
+use Rattle.resinfo.specs.Results.{Value, Property, Result, orOne, reason, property}
+use Rattle.resinfo.specs.Values.{span, valueOf}
+use Rattle.resinfo.specs.Table.{knownTypes, understood}
+use Rattle.body.specs.Body.{Reading, unreadable, malformed, newer, noResult, results, resinfo, headed}
+use Rattle.body.specs.Report.{escape, line, idLine, versionLine, noneLine, reasonLine, letterOf, propertyLine, propertyLines, resultLines, lines, ignoredOf}
+use Rattle.report.specs.declared.Reported.{Reported}
+use Rattle.report.specs.declared.results.Details.{Details}
+use Rattle.report.specs.declared.results.Stated.{Stated}
+use Rattle.report.specs.declared.results.Turn.{Turn}
+use Rattle.report.specs.declared.results.Turn.the-variants as turn
+use Rattle.report.specs.declared.results.Results.{Results}
+
+-- ==== lines by the places of their texts
+
+-- a property value stands inside, its parts in order
+abbrev pub Stands : List ℕ → place.Value → Type 0
+Stands s (at.Token a e) = (a < e) × (e ≤ length s)
+Stands s (at.Quoted a e) = (a < e) × (e ≤ length s)
+Stands s (at.Mailbox a m e q) = (a < m) × ((m < e) × (e ≤ length s))
+Stands s (at.AtDomain a e) = (a < e) × (e ≤ length s)
+
+-- the last two columns of the line of a property
+abbrev pub valueColumns : Value → List ℕ
+valueColumns v = 9 ∷ (letterOf (v .kind) ++ (9 ∷ (escape (v .text) ++ (10 ∷ []))))
+
+abbrev pub methodText : List ℕ → ℕ → ℕ → ℕ → ℕ → List ℕ
+methodText s a e b f = line (bytes "m" ∷ keywordText (span s a e) ∷ keywordText (span s b f) ∷ [])
+
+abbrev pub reasonText : List ℕ → ℕ → ℕ → Bool → List ℕ
+reasonText s a e q = reasonLine (some (textOf s a e q))
+
+abbrev pub propertyText : List ℕ → ℕ → ℕ → ℕ → ℕ → place.Value → List ℕ
+propertyText s a e b f v = propertyLine (record { ptype = keywordText (span s a e); property = keywordText (span s b f); value = valueOf s v })
+
+-- ==== one result
+
+-- what p reads at a place, if it does, and where it ends
+unfoldable pub optionAt : {A : Type 0} → Parser A → List ℕ → ℕ → Option A
+optionAt p s at = elim (from p s at) [ nothing ↦ none | got a n ↦ some a ]
+
+unfoldable pub optionEnd : {A : Type 0} → Parser A → List ℕ → ℕ → ℕ
+optionEnd p s at = elim (from p s at) [ nothing ↦ at | got a n ↦ n ]
+
+-- the properties behind a reason, or where it would stand
+abbrev pub propertiesAt : List ℕ → ℕ → List Property
+propertiesAt s at = listAt property s (optionEnd reason s at)
+
+-- the lines of the reason and the properties behind a place
+abbrev pub detailLines : List ℕ → ℕ → List ℕ
+detailLines s at = reasonLine (optionAt reason s at) ++ propertyLines (propertiesAt s at)
+
+-- the lines of the result behind a place, understood or not
+unfoldable pub turnLines : List ℕ → ℕ → List ℕ
+turnLines s at = elim (from resinfo s at) [ nothing ↦ [] | got r n ↦ resultLines r ]
+
+pub record PropertiesPut (s : List ℕ) (at : ℕ) (old : List ℕ) (to : ℕ) (new : List ℕ) (r : Details) : Type 0 where
+  pub end : r .end ≡ endAt property s at
+  pub known : r .known ≡ knownTypes (listAt property s at)
+  pub wrote : Wrote old to (propertyLines (listAt property s at)) new (r .next)
+
+pub record ReasonPut (s : List ℕ) (at : ℕ) (old : List ℕ) (to : ℕ) (new : List ℕ) (r : Stated) : Type 0 where
+  pub end : r .end ≡ optionEnd reason s at
+  pub wrote : Wrote old to (reasonLine (optionAt reason s at)) new (r .next)
+
+pub record DetailsPut (s : List ℕ) (at : ℕ) (old : List ℕ) (to : ℕ) (new : List ℕ) (r : Details) : Type 0 where
+  pub end : r .end ≡ endAt property s (optionEnd reason s at)
+  pub known : r .known ≡ knownTypes (propertiesAt s at)
+  pub wrote : Wrote old to (detailLines s at) new (r .next)
+
+-- a result that was read, with its lines
+pub record TurnRead (s : List ℕ) (at : ℕ) (old : List ℕ) (to : ℕ) (new : List ℕ) (e n : ℕ) (u : Bool) : Type 0 where
+  pub result : Result
+  pub reads : got result e ≡ from resinfo s at
+  pub known : u ≡ understood result
+  pub wrote : Wrote old to (resultLines result) new n
+
+abbrev pub TurnPut : List ℕ → ℕ → List ℕ → ℕ → List ℕ → Turn → Type 0
+TurnPut s at old to new (turn.Read e n u) = TurnRead s at old to new e n u
+TurnPut s at old to new turn.Missing = (nothing ≡ from resinfo s at) × (new ≡ old)
+
+-- ==== all results
+
+pub record ResultsPut (s : List ℕ) (at : ℕ) (old : List ℕ) (to : ℕ) (new : List ℕ) (r : Results) : Type 0 where
+  pub end : r .end ≡ endAt resinfo s at
+  pub ignored : r .ignored ≡ ignoredOf (listAt resinfo s at)
+  pub wrote : Wrote old to (lines (listAt resinfo s at)) new (r .next)
+
+-- ==== the whole body
+
+-- p takes something or nothing of the front of a list, with success
+unfoldable pub succeeds : {A : Type 0} → Parser A → List ℕ → Bool
+succeeds p xs = elim (p xs) [ nothing ↦ false | got a n ↦ true ]
+
+-- what is written behind the line of the identifier
+abbrev pub behindId : Reading → List ℕ
+behindId unreadable = []
+behindId malformed = []
+behindId (newer h) = versionLine (h .version)
+behindId (noResult i) = noneLine
+behindId (results i rs) = lines rs
+
+-- all that is written
+abbrev pub wholeText : Reading → List ℕ
+wholeText unreadable = []
+wholeText malformed = []
+wholeText (newer h) = idLine (h .identifier) ++ versionLine (h .version)
+wholeText (noResult i) = idLine i ++ noneLine
+wholeText (results i rs) = idLine i ++ lines rs
+
+abbrev pub refused : ℕ → ℕ → Reported
+refused n p = record { number = n; place = p; written = 0; ignored = 0 }
+
+-- the answer where so many bytes come before what is written behind the line of the identifier
+abbrev pub answerBehind : ℕ → Reading → Reported
+answerBehind to unreadable = refused 7 0
+answerBehind to malformed = refused 9 0
+answerBehind to (newer h) = record { number = 8; place = 0; written = to + length (versionLine (h .version)); ignored = 0 }
+answerBehind to (noResult i) = record { number = 0; place = 0; written = to + length noneLine; ignored = 0 }
+answerBehind to (results i rs) = record { number = 0; place = 0; written = to + length (lines rs); ignored = ignoredOf rs }
+
+pub record Behind (x : Reading) (old : List ℕ) (to : ℕ) (new : List ℕ) (r : Reported) : Type 0 where
+  pub answer : r ≡ answerBehind to x
+  pub bytes : new ≡ sets old to (behindId x)
+
+-- the digits from a up to e are a header version other than 1
+unfoldable pub newerAt : List ℕ → ℕ → ℕ → Reading
+newerAt s a e = elim (follows (inClass Delimiter) (drop e s)) [ false ↦ malformed | true ↦ newer (record { identifier = []; version = span s a e }) ]
+
+-- what a body says whose identifier ends at a place; the identifier itself is left out
+unfoldable pub headedAt : List ℕ → ℕ → Reading
+headedAt s e = elim (from (optional stated) s e) [ nothing ↦ malformed | got v n ↦ headed (record { identifier = []; version = orOne v }) (drop n s) ]
+
+-- the answer to a whole body
+abbrev pub wholeAnswer : Reading → Reported
+wholeAnswer unreadable = refused 7 0
+wholeAnswer malformed = refused 9 0
+wholeAnswer (newer h) = record { number = 8; place = 0; written = length (wholeText (newer h)); ignored = 0 }
+wholeAnswer (noResult i) = record { number = 0; place = 0; written = length (wholeText (noResult i)); ignored = 0 }
+wholeAnswer (results i rs) = record { number = 0; place = 0; written = length (wholeText (results i rs)); ignored = ignoredOf rs }
+
+pub record Said (x : Reading) (old new : List ℕ) (r : Reported) : Type 0 where
+  pub answer : r ≡ wholeAnswer x
+  pub bytes : new ≡ sets old 0 (wholeText x)

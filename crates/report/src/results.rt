@@ -1,0 +1,216 @@
+// The results of a body, one after the other: each is read and its lines are written in one go, and where it then turns out that it is
+// ignored, the next ones are written over them.
+//
+// So a caller must lend no more room than the whole report takes: then nothing of an ignored result is left.
+use super::write;
+use resinfo::Step;
+use resinfo::parts::Method;
+use resinfo::parts::Reason;
+ghost use mathlib.Core.Path.{_≡_};
+ghost use mathlib.Core.Bool.{_&&_};
+ghost use mathlib.Core.List.{map};
+ghost use Prim.Native.Nat.{_+_, _*_, _≤_, _<_, _^_};
+ghost use lib.ListN.{length};
+ghost use Rattle.reading.specs.Places.{listAt};
+ghost use Rattle.lexis.specs.Limits.{byteLimit};
+ghost use Rattle.lexis.specs.Bytes.{lower};
+ghost use Rattle.resinfo.specs.Results.{reason, property};
+ghost use Rattle.resinfo.specs.Table.{listed, tabled, table, ptypes};
+ghost use Rattle.body.specs.Body.{resinfo};
+ghost use Rattle.body.specs.Report.{reasonLine, propertyLines, lines};
+ghost use Rattle.report.specs.Internal.{optionAt, detailLines, turnLines, ReasonPut, PropertiesPut, DetailsPut, TurnPut, ResultsPut};
+
+// What was read and written: the place after it in the body and the place after its text, and whether all of its ptypes are known.
+struct Details {
+    end: usize,
+    next: usize,
+    known: bool,
+}
+
+// Whether all ptypes so far are known, and this one too.
+fn knows_ptype(known: bool, ptype: &[u8]) -> bool
+    ensures { λ r. ⌜ r ≡ (known && listed ptypes (map lower (now (ptype .entry)))) ⌝ }
+{
+    if known {
+        return resinfo::table::is_ptype(ptype);
+    }
+    false
+}
+
+// Whether the version of a method is 1, and its result stands in its row.
+fn knows_method(one: bool, method: &[u8], result: &[u8]) -> bool
+    ensures { λ r. ⌜ r ≡ (one && tabled table (map lower (now (method .entry))) (map lower (now (result .entry)))) ⌝ }
+{
+    if one {
+        return resinfo::table::is_tabled(method, result);
+    }
+    false
+}
+
+// The properties behind a method or a reason that ends at a place, with their lines.
+fn put_properties(s: &[u8], at: usize, out: &mut [u8], to: usize) -> Details
+    requires { ⌜ to + length (propertyLines (listAt property (now s) at)) < 2 ^ 64 ⌝ }
+    ensures { λ r. ⌜ PropertiesPut (now (s .entry)) at (now (out .entry)) to (now (out .exit)) r ⌝ }
+{
+    let mut i = at;
+    let mut n = to;
+    let mut known = true;
+    loop {
+        match resinfo::step_at(s, i) {
+            Step::Property {
+                type_start,
+                type_end,
+                name_start,
+                name_end,
+                value,
+                end,
+            } => {
+                known = knows_ptype(known, &s[type_start..type_end]);
+                n = write::put_property(
+                    s,
+                    type_start,
+                    type_end,
+                    name_start,
+                    name_end,
+                    value,
+                    out,
+                    n,
+                );
+                i = end;
+            }
+            Step::Done => {
+                return Details {
+                    end: i,
+                    next: n,
+                    known,
+                };
+            }
+            Step::Refused => {
+                return Details {
+                    end: i,
+                    next: n,
+                    known,
+                };
+            }
+        }
+    }
+}
+
+// The places after a reason and after its line.
+struct Stated {
+    end: usize,
+    next: usize,
+}
+
+// The reason behind a result that ends at a place, if there is one, with its line.
+fn put_reason(s: &[u8], at: usize, out: &mut [u8], to: usize) -> Stated
+    requires { ⌜ to + length (reasonLine (optionAt reason (now s) at)) < 2 ^ 64 ⌝ }
+    ensures { λ r. ⌜ ReasonPut (now (s .entry)) at (now (out .entry)) to (now (out .exit)) r ⌝ }
+{
+    match resinfo::parts::reason_at(s, at) {
+        Reason::Stated { start, end, quoted } => {
+            let n = write::put_reason(s, start, end, quoted, out, to);
+            Stated { end, next: n }
+        }
+        Reason::Absent => Stated { end: at, next: to },
+    }
+}
+
+// Reason and properties behind a result that ends at a place, with their lines.
+fn put_details(s: &[u8], at: usize, out: &mut [u8], to: usize) -> Details
+    requires { ⌜ to + length (detailLines (now s) at) < 2 ^ 64 ⌝ }
+    ensures { λ r. ⌜ DetailsPut (now (s .entry)) at (now (out .entry)) to (now (out .exit)) r ⌝ }
+{
+    let r = put_reason(s, at, out, to);
+    put_properties(s, r.end, out, r.next)
+}
+
+// A result that was read, with the space before it: the place after it, the place after its lines, and whether it is understood.
+enum Turn {
+    Read {
+        end: usize,
+        next: usize,
+        understood: bool,
+    },
+    Missing,
+}
+
+// The next result behind a place, with its lines.
+fn put_result(s: &[u8], at: usize, out: &mut [u8], to: usize) -> Turn
+    requires { ⌜ to + length (turnLines (now s) at) < 2 ^ 64 ⌝ }
+    ensures { λ r. ⌜ TurnPut (now (s .entry)) at (now (out .entry)) to (now (out .exit)) r ⌝ }
+{
+    let a = resinfo::parts::mark_end(s, at, b';');
+    if a == at {
+        return Turn::Missing;
+    }
+    match resinfo::parts::method_at(s, a) {
+        Method::Read {
+            start,
+            end,
+            one,
+            result_start,
+            result_end,
+        } => {
+            let known = knows_method(one, &s[start..end], &s[result_start..result_end]);
+            let n = write::put_method(s, start, end, result_start, result_end, out, to);
+            let d = put_details(s, result_end, out, n);
+            Turn::Read {
+                end: d.end,
+                next: d.next,
+                understood: both(known, d.known),
+            }
+        }
+        Method::Missing => Turn::Missing,
+    }
+}
+
+fn both(a: bool, b: bool) -> bool
+    ensures { λ r. ⌜ r ≡ (a && b) ⌝ }
+{
+    if a {
+        return b;
+    }
+    false
+}
+
+// All results behind a place: the place after the last of them, the place after the lines of those that are understood, and how many are
+// not.
+pub(crate) struct Results {
+    pub(crate) end: usize,
+    pub(crate) next: usize,
+    pub(crate) ignored: usize,
+}
+
+pub(crate) fn put_results(s: &[u8], at: usize, out: &mut [u8], to: usize) -> Results
+    requires { ⌜ ((length (now s) ≤ byteLimit) × (length (now out) ≤ to + length (lines (listAt resinfo (now s) at)))) × (to + length (lines (listAt resinfo (now s) at)) < 2 ^ 63) ⌝ }
+    ensures { λ r. ⌜ ResultsPut (now (s .entry)) at (now (out .entry)) to (now (out .exit)) r ⌝ }
+{
+    let mut i = at;
+    let mut n = to;
+    let mut ignored: usize = 0;
+    loop {
+        match put_result(s, i, out, n) {
+            Turn::Read {
+                end,
+                next,
+                understood,
+            } => {
+                if understood {
+                    n = next;
+                    i = end;
+                } else {
+                    ignored += 1;
+                    i = end;
+                }
+            }
+            Turn::Missing => {
+                return Results {
+                    end: i,
+                    next: n,
+                    ignored,
+                };
+            }
+        }
+    }
+}
