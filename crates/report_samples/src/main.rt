@@ -1,0 +1,227 @@
+// Runs `report::report` on the cases of document 01's rules for one field body, and writes one line for each.
+//
+// Two arguments make a case: the file of the body, and how many bytes are lent for the report. The bytes lent are 170 before the call, a
+// byte that no report has. A line has the two arguments and then what was answered:
+//   number, place, written, ignored   as `report` returned them
+//   check                             the Adler-32 sum of the bytes that were written (1 where there are none)
+//   changed                           how many of the lent bytes past those are no longer 170; on a refusal that is of all lent bytes
+//   text                              the first 256 of the bytes that were written, which is all of them but in the cases of the longest
+//                                     reports; a byte outside 33 to 126 and the percent sign are shown as % and two hex digits in lower case
+// A file that can't be opened has `no file` on its line. At most 65,540 bytes of a body are read, and at most 200,000 are lent, which is
+// enough on the far side of each limit.
+//
+// The lines that are expected (the file stdout) were not made by this program. They are the answers of a model of the rules, in another
+// language, which its writers made from document 01 after they had read the definitions that are proved here; each was also held to an
+// answer worked out by hand.
+use libc::STDOUT_FILENO;
+use report::Reported;
+ghost use Prim.Native.Nat.{_≤_, _<_};
+
+// The most bytes of a body that are read.
+const MOST: usize = 65540;
+
+// The most bytes that are lent.
+const MOST_LENT: usize = 200000;
+
+// The most bytes of a report that are shown.
+const MOST_SHOWN: usize = 256;
+
+// A byte as a wider number.
+fn wide(b: u8) -> u64
+    ensures { λ r. ⌜ r < 256 ⌝ }
+{
+    b as u64
+}
+
+// The Adler-32 sum of the bytes (RFC 1950, 2.2).
+fn adler(s: &[u8]) -> u64 {
+    let mut low: u64 = 1;
+    let mut high: u64 = 0;
+    let mut i: usize = 0;
+    while i < s.len() {
+        low = (low + wide(s[i])) % 65521;
+        high = (high + low) % 65521;
+        i += 1;
+    }
+    high * 65536 + low
+}
+
+// 0 for a byte of 170, 1 for any other.
+fn differs(b: u8) -> usize
+    ensures { λ r. ⌜ r ≤ 1 ⌝ }
+{
+    if b == 170 {
+        return 0;
+    }
+    1
+}
+
+// How many of the bytes are not 170.
+fn changed(s: &[u8]) -> usize {
+    let mut count: usize = 0;
+    let mut i: usize = 0;
+    while i < s.len() {
+        count += differs(s[i]);
+        i += 1;
+    }
+    count
+}
+
+// Whether a byte is shown as itself.
+fn is_shown(b: u8) -> bool {
+    if b == b'%' {
+        return false;
+    }
+    b >= 33 && b <= 126
+}
+
+// Shows a byte.
+fn show_byte(b: u8) {
+    if is_shown(b) {
+        let one = [b; 1];
+        io::write_all(STDOUT_FILENO, &one);
+        return;
+    }
+    io::write_all(STDOUT_FILENO, b"%");
+    io::print_hex(STDOUT_FILENO, wide(b), 2);
+}
+
+// Shows the first bytes.
+fn show(s: &[u8]) {
+    let mut i: usize = 0;
+    while i < s.len() {
+        if i == MOST_SHOWN {
+            return;
+        }
+        show_byte(s[i]);
+        i += 1;
+    }
+}
+
+// A number of bytes to lend, cut to the most.
+fn limited(n: usize) -> usize
+    ensures { λ r. ⌜ r ≤ 200000 ⌝ }
+{
+    if n > MOST_LENT {
+        return MOST_LENT;
+    }
+    n
+}
+
+// What a digit tells.
+fn digit(b: u8) -> usize
+    ensures { λ r. ⌜ r < 256 ⌝ }
+{
+    if b < b'0' {
+        return 0;
+    }
+    (b - b'0') as usize
+}
+
+// The number that decimal digits tell.
+fn number_of(s: &[u8]) -> usize
+    ensures { λ r. ⌜ r ≤ 200000 ⌝ }
+{
+    let mut n: usize = 0;
+    let mut i: usize = 0;
+    while i < s.len() {
+        n = limited(n * 10 + digit(s[i]));
+        i += 1;
+    }
+    n
+}
+
+// Writes a number behind its name.
+fn put_number(label: &[u8], n: u64) {
+    io::write_all(STDOUT_FILENO, label);
+    io::print_decimal(STDOUT_FILENO, n);
+}
+
+// Writes what holds of the lent bytes: the written ones in front, and those past them.
+fn put_bytes(out: &[u8], written: usize) {
+    if written > out.len() {
+        io::write_all(STDOUT_FILENO, b", more written than lent");
+        return;
+    }
+    put_number(b", check ", adler(&out[..written]));
+    put_number(b" changed ", changed(&out[written..]) as u64);
+    io::write_all(STDOUT_FILENO, b" text [");
+    show(&out[..written]);
+    io::write_all(STDOUT_FILENO, b"]");
+}
+
+// Writes the answer.
+fn put_answer(r: Reported) {
+    put_number(b": number ", wide(r.number));
+    put_number(b" place ", r.place as u64);
+    put_number(b" written ", r.written as u64);
+    put_number(b" ignored ", r.ignored as u64);
+}
+
+// Reports into the lent bytes, and writes the answer and what holds of them.
+fn report_into(body: &[u8], out: &mut [u8]) {
+    let r = report::report(body, out);
+    put_answer(r);
+    put_bytes(out, r.written);
+}
+
+// The same with so many lent bytes, each 170.
+fn report_with(body: &[u8], room: usize)
+    requires { ⌜ room ≤ 200000 ⌝ }
+{
+    let mut out = [170u8; MOST_LENT];
+    report_into(body, &mut out[..room]);
+}
+
+// The same on the file of the body.
+fn run(file: i32, room: usize)
+    requires { ⌜ room ≤ 200000 ⌝ }
+{
+    let mut body = [0u8; MOST];
+    let n = io::read_full(file, &mut body);
+    report_with(&body[..n], room);
+}
+
+// Opens the file that an argument names, and writes the name.
+fn open(argument: usize) -> i32 {
+    let mut path = io::buffer();
+    let n = os::arg(argument, &mut path);
+    io::write_all(STDOUT_FILENO, &path[..n]);
+    io::write_all(STDOUT_FILENO, b" ");
+    os::open_read(&path[..n])
+}
+
+// The number of bytes that an argument tells, which is also written.
+fn room_of(argument: usize) -> usize
+    ensures { λ r. ⌜ r ≤ 200000 ⌝ }
+{
+    let mut text = io::buffer();
+    let n = os::arg(argument, &mut text);
+    io::write_all(STDOUT_FILENO, &text[..n]);
+    number_of(&text[..n])
+}
+
+// One case: the number of each of its two arguments.
+fn one_case(body: usize, lent: usize) {
+    let file = open(body);
+    let room = room_of(lent);
+    if file < 0 {
+        io::write_all(STDOUT_FILENO, b": no file\n");
+        return;
+    }
+    run(file, room);
+    io::write_all(STDOUT_FILENO, b"\n");
+    libc::close(file);
+}
+
+fn main() {
+    let n = os::arg_count();
+    let mut i: usize = 1;
+    while i < n {
+        if n - i < 2 {
+            return;
+        }
+        one_case(i, i + 1);
+        i += 2;
+    }
+}
