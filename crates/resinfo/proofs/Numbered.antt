@@ -8,12 +8,12 @@ use mathlib.Core.Path.{_≡_, refl, sym, ap, _∙_}
 use mathlib.Core.Bool.{Bool, true, false}
 use mathlib.Core.List.{List, [], _∷_, map}
 use lib.Dec.{leb, ltb}
-use lib.ListN.{length, getD, drop, take, drop-of-length-le}
-use lib.Seq.{drop-cons}
+use lib.ListN.{length, getD, drop, take, drop-of-length-le, length-map}
+use lib.Seq.{drop-cons, length-take-le}
 use borrow.Author.Tests.{leb-true, ltb-true, ltb-false, lt-ltb, le-ltb}
 use Rattle.sequences.proofs.Booleans.{no-true, and-left, and-right}
 use Rattle.reading.specs.Texts.{same}
-use Rattle.reading.proofs.Texts.{same-eq}
+use Rattle.reading.proofs.Texts.{same-eq, same-long}
 use Rattle.lexis.specs.Bytes.{lower, alike}
 use Rattle.resinfo.specs.Table.{listed}
 use Rattle.resinfo.specs.Internal.{fits, names, numberOf}
@@ -67,6 +67,17 @@ module _ (rows : List (List ℕ)) (lengths text : List ℕ) (i : ℕ) (w : Passe
           rest = rw add-one (omega (arith, here, first-other (getD lengths i 0) (getD rows i []) (drop (suc i) lengths) (drop (suc i) rows) text (sym e ∙ f)));
           bound = omega arith;
         }
+
+  -- a name of another length is another
+  module _ (k : fits lengths rows ≡ true) (h : i < length rows) where
+    pub passed-other : (getD lengths i 0 ≡ length text → ⊥) → Passed rows lengths text (i + 1)
+    unfolding alike
+    passed-other ne =
+        let n = getD lengths i 0 in
+        let x = take n (getD rows i []) in
+        let l : length (map lower x) ≡ n = length-map x lower ∙ length-take-le n (getD rows i []) (fits-at lengths rows i k h .1) in
+        let o : alike x text ≡ false = same-long (map lower x) (map lower text) (λ e. ne (sym l ∙ (e ∙ length-map text lower))) in
+        passed-more k h false (sym o) refl
 
 -- ==== what a number says
 

@@ -63,11 +63,15 @@ fn number_of(rows: &[[u8; 9]], lengths: &[usize], text: &[u8]) -> usize
 {
     let mut i: usize = 0;
     while i < rows.len() {
-        let row = rows[i];
-        if same_text(&row[..lengths[i]], text) {
-            return i;
+        if lengths[i] != text.len() {
+            i += 1;
+        } else {
+            let row = rows[i];
+            if same_text(&row[..lengths[i]], text) {
+                return i;
+            }
+            i += 1;
         }
-        i += 1;
     }
     i
 }

@@ -5,7 +5,7 @@ use mathlib.Core.List.{[]}
 use borrow.Author.Needs.{needs}
 use lib.ListN.{length, getD}
 use lib.Seq.{length-take-le}
-use Rattle.resinfo.proofs.Numbered.{Passed, fits-at, passed-none, passed-all, passed-hit, passed-more}
+use Rattle.resinfo.proofs.Numbered.{Passed, fits-at, passed-none, passed-all, passed-hit, passed-more, passed-other}
 use Rattle.resinfo.proofs.table.number_of.Statement.{statement}
 use Rattle.resinfo.proofs.table.number_of.Tie as tie
 
@@ -22,6 +22,21 @@ room c = fits-at _ _ _ (c .before .before .before .before .pre) (c .loop-test .t
 loop-holds : tie.Need-loop-holds Inv-loop μ-loop
 loop-holds c = passed-none _ _ _
 
+mul-if1 : tie.Need-mul-if1 Inv-loop μ-loop
+mul-if1 c = search needs
+
+shared-slice-read-if1 : tie.Need-shared-slice-read-if1 Inv-loop μ-loop
+shared-slice-read-if1 c = room (c .before) .0
+
+add-i : tie.Need-add-i Inv-loop μ-loop
+add-i c = search needs
+
+loop-less : tie.Need-loop-less Inv-loop μ-loop
+loop-less c = search needs
+
+loop-again : tie.Need-loop-again Inv-loop μ-loop
+loop-again c = passed-other _ _ _ _ (c .before .before .before .loop .inv) (c .before .before .before .before .before .before .pre) (c .before .before .loop-test .taken) (c .if1 .taken)
+
 mul-row : tie.Need-mul-row Inv-loop μ-loop
 mul-row c = search needs
 
@@ -32,28 +47,28 @@ mul-row-2 : tie.Need-mul-row-2 Inv-loop μ-loop
 mul-row-2 c = search needs
 
 shared-slice-read-row : tie.Need-shared-slice-read-row Inv-loop μ-loop
-shared-slice-read-row c = room (c .before .before) .0
+shared-slice-read-row c = room (c .before .before .before .before) .0
 
 array-share-prefix-row : tie.Need-array-share-prefix-row Inv-loop μ-loop
-array-share-prefix-row c = room (c .before .before) .1
+array-share-prefix-row c = room (c .before .before .before .before) .1
 
 slice-aggregate-same-text : tie.Need-slice-aggregate-same-text Inv-loop μ-loop
-slice-aggregate-same-text c = sym (length-take-le _ _ (room (c .before .before .before) .1))
+slice-aggregate-same-text c = sym (length-take-le _ _ (room (c .before .before .before .before .before) .1))
 
 same-text-requires : tie.Need-same-text-requires Inv-loop μ-loop
 same-text-requires c κs = search needs
 
 returns : tie.Need-returns Inv-loop μ-loop
-returns c = search passed-hit
+returns c = passed-hit _ _ _ _ (c .before .before .before .before .before .before .before .before .loop .inv) (c .before .before .before .before .before .before .before .before .before .before .before .pre) (c .before .before .before .before .before .before .before .loop-test .taken) _ (c .before .same-text .ensures) (c .if2 .taken)
 
-add-i : tie.Need-add-i Inv-loop μ-loop
-add-i c = search needs
+add-i-2 : tie.Need-add-i-2 Inv-loop μ-loop
+add-i-2 c = search needs
 
-loop-less : tie.Need-loop-less Inv-loop μ-loop
-loop-less c = search needs
+loop-less-2 : tie.Need-loop-less-2 Inv-loop μ-loop
+loop-less-2 c = search needs
 
-loop-again : tie.Need-loop-again Inv-loop μ-loop
-loop-again c = search passed-more
+loop-again-2 : tie.Need-loop-again-2 Inv-loop μ-loop
+loop-again-2 c = passed-more _ _ _ _ (c .before .before .before .before .before .before .before .before .loop .inv) (c .before .before .before .before .before .before .before .before .before .before .before .pre) (c .before .before .before .before .before .before .before .loop-test .taken) _ (c .before .same-text .ensures) (c .if2 .left)
 
 returns-2 : tie.Need-returns-2 Inv-loop μ-loop
 returns-2 c = search passed-all
@@ -65,6 +80,11 @@ number-of-spec =
     Inv-loop
     μ-loop
     loop-holds
+    mul-if1
+    shared-slice-read-if1
+    add-i
+    loop-less
+    loop-again
     mul-row
     shared-slice-copy-out-row
     mul-row-2
@@ -73,7 +93,7 @@ number-of-spec =
     slice-aggregate-same-text
     same-text-requires
     returns
-    add-i
-    loop-less
-    loop-again
+    add-i-2
+    loop-less-2
+    loop-again-2
     returns-2)

@@ -1,0 +1,17 @@
+pub mod Opened
+pub mod Samples
+pub mod Ordering
+pub mod Halving
+pub mod Instances
+pub mod TagParts
+pub mod Collecting
+pub mod TagLists
+pub mod Counting
+pub mod Storing
+pub mod Gathering
+pub mod Acceptance
+pub mod Answering
+pub mod Noting
+pub mod Ranking
+pub mod Judging
+pub mod Headlines

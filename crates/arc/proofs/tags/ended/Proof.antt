@@ -1,0 +1,13 @@
+-- `arc::tags::ended` meets its contract: the place is past the body, or not. Assumes nothing.
+use Rattle.arc.proofs.TagLists.{ended-there, ended-not}
+use Rattle.arc.proofs.tags.ended.Statement.{statement}
+use Rattle.arc.proofs.tags.ended.Tie as tie
+
+returns : tie.Need-returns
+returns c = search ended-there
+
+returns-2 : tie.Need-returns-2
+returns-2 c = search ended-not
+
+pub ended-spec : {M : Type 1} → statement M
+ended-spec = tie.close (tie.spec returns returns-2)

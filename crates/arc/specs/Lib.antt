@@ -1,0 +1,6 @@
+pub mod Tags
+pub mod Sets
+pub mod Chain
+pub mod Accepted
+pub mod Answers
+pub mod Internal

@@ -1,0 +1,461 @@
+// ARC chains (RFC 8617): whether a block holds a chain of sets that is built, and what it says by the verdicts on its signatures.
+//
+// `judge(block, verdicts)` answers
+//   0  done: outcome, reason, field, instances, status and oldest-pass, place 0
+//   1  the block has more than 65,536 bytes: place 0
+//   2  a CR without LF, an LF without CR, or a last line without CRLF: that byte, or the block length
+//   3  an empty line, a first line starting with space or tab, or a field that lacks name or colon: the start of the line
+//   4  a 513th field: its start
+//   10 the chain is built and the verdicts are not one byte from 0 to 3 for each instance: place 0
+// tried in this order. A refusal, any of these but 0, has 0 for everything else.
+//
+// The outcome is 0 (none: no ARC field), 1 (failed) or 2 (built, with the number of instances). The reason of a failed chain is the first
+// that applies:
+//   1  a field that can't be read; `field` is the number of the first, among all fields from 1
+//   2  a second field of one kind at one instance; `field` is the number of the first
+//   3  an instance up to the highest without a field of each kind
+//   4  the seal at the highest instance has cv fail
+//   5  the seal at 1 hasn't cv none, or a later one hasn't cv pass
+// The status is 0 (none), 1 (pass) or 2 (fail); `oldest` is the oldest-pass, which there is exactly where the status
+// is pass.
+use block::Next;
+use block::Walk;
+use instance::Instance;
+use instance::Start;
+use kind::Kind;
+use tags::Listed;
+ghost use mathlib.Core.Path.{_≡_};
+ghost use mathlib.Core.Bool.{cond};
+ghost use Prim.Native.Nat.{_≤_, _<_};
+ghost use lib.Dec.{ltb};
+ghost use lib.ListN.{length, take};
+ghost use Rattle.lexis.specs.Limits.{byteLimit};
+ghost use Rattle.arc.specs.Chain.{column, first, sealed, placed, noted, failed, built, anyEmpty, prescribed, sealGood, all, validFor, passes, oldestPass, blank, judged, judge};
+ghost use Rattle.arc.specs.Answers.{answerOf};
+ghost use Rattle.arc.specs.Internal.{fieldOf, fieldSaid, saidOf, isOther, setsOf, GatheredFrom, Places, rankedBy};
+
+pub mod instance;
+pub mod kind;
+mod seen;
+mod tags;
+
+pub struct Judged {
+    pub number: u8,
+    pub place: usize,
+    pub outcome: u8,
+    pub reason: u8,
+    pub field: usize,
+    pub instances: usize,
+    pub status: u8,
+    pub oldest: usize,
+}
+
+// What an ARC field says: its instance, and a seal's chain value (0 for the other kinds).
+enum Field {
+    Read { instance: usize, cv: u8 },
+    Unreadable,
+}
+
+fn field_of(instance: usize, l: Listed) -> Field
+    ensures { λ r. ⌜ r ≡ fieldOf instance l ⌝ }
+{
+    match l {
+        Listed::Read { cv } => Field::Read { instance, cv },
+        Listed::Unreadable => Field::Unreadable,
+    }
+}
+
+// What the body of a field of a kind says.
+fn read_field(kind: Kind, body: &[u8]) -> Field
+    requires { ⌜ length (now body) ≤ byteLimit ⌝ }
+    ensures { λ r. ⌜ fieldSaid r ≡ saidOf kind (now (body .entry)) ⌝ }
+{
+    match instance::instance_of(body) {
+        Start::Read { instance, end } => match kind {
+            Kind::Results => Field::Read { instance, cv: 0 },
+            Kind::Signature => field_of(instance, tags::list_at(false, body, end)),
+            Kind::Seal => field_of(instance, tags::list_at(true, body, end)),
+            Kind::Other => Field::Unreadable,
+        },
+        Start::Missing => Field::Unreadable,
+    }
+}
+
+// The numbers of the first unreadable and the first repeated field, 0 for none, and the highest instance.
+struct Counts {
+    unreadable: usize,
+    repeated: usize,
+    highest: usize,
+}
+
+// A number, or the one that came first.
+fn first(a: usize, n: usize) -> usize
+    ensures { λ r. ⌜ r ≡ first a n ⌝ }
+{
+    if a == 0 {
+        return n;
+    }
+    a
+}
+
+fn highest(a: usize, b: usize) -> usize
+    ensures { λ r. ⌜ r ≡ cond (ltb a b) b a ⌝ }
+{
+    if a < b {
+        return b;
+    }
+    a
+}
+
+// The column of a kind.
+fn column(kind: Kind) -> usize
+    ensures { λ r. ⌜ r ≡ column kind ⌝ }
+{
+    match kind {
+        Kind::Results => 0,
+        Kind::Signature => 1,
+        Kind::Seal => 2,
+        Kind::Other => 3,
+    }
+}
+
+fn narrow(x: usize) -> u16
+    requires { ⌜ x < 65536 ⌝ }
+    ensures { λ r. ⌜ r ≡ x ⌝ }
+{
+    x as u16
+}
+
+// Keeps a seal's chain value.
+fn keep_cv(kind: Kind, cvs: &mut [u8; 50], instance: usize, cv: u8)
+    requires { ⌜ (1 ≤ instance) × (instance ≤ 50) ⌝ }
+    ensures { λ _. ⌜ now (cvs .exit) ≡ sealed kind instance cv (now (cvs .entry)) ⌝ }
+{
+    match kind {
+        Kind::Results => {}
+        Kind::Signature => {}
+        Kind::Seal => {
+            cvs[instance - 1] = cv;
+        }
+        Kind::Other => {}
+    }
+}
+
+// Puts the n-th field, which is of one of the three kinds and reads, into its place, unless that is taken.
+fn place(
+    kind: Kind,
+    n: usize,
+    instance: usize,
+    cv: u8,
+    places: &mut [[u16; 3]; 50],
+    cvs: &mut [u8; 50],
+    c: Counts,
+) -> Counts
+    requires { ⌜ ((1 ≤ instance) × (instance ≤ 50)) × ((column kind < 3) × (n < 65536)) ⌝ }
+    ensures { λ r. ⌜ setsOf (now (places .exit)) (now (cvs .exit)) r ≡ placed n kind (record { instance = instance; cv = cv }) (setsOf (now (places .entry)) (now (cvs .entry)) c) ⌝ }
+{
+    let k = column(kind);
+    if places[instance - 1][k] != 0 {
+        return Counts {
+            unreadable: c.unreadable,
+            repeated: first(c.repeated, n),
+            highest: c.highest,
+        };
+    }
+    places[instance - 1][k] = narrow(n);
+    keep_cv(kind, cvs, instance, cv);
+    Counts {
+        unreadable: c.unreadable,
+        repeated: c.repeated,
+        highest: highest(c.highest, instance),
+    }
+}
+
+// Whether a field is none of the three kinds.
+fn is_other(kind: Kind) -> bool
+    ensures { λ r. ⌜ r ≡ isOther kind ⌝ }
+{
+    match kind {
+        Kind::Results => false,
+        Kind::Signature => false,
+        Kind::Seal => false,
+        Kind::Other => true,
+    }
+}
+
+// Notes the n-th field of a block.
+fn note(
+    kind: Kind,
+    n: usize,
+    body: &[u8],
+    places: &mut [[u16; 3]; 50],
+    cvs: &mut [u8; 50],
+    c: Counts,
+) -> Counts
+    requires { ⌜ (length (now body) ≤ byteLimit) × (n < 65536) ⌝ }
+    ensures { λ r. ⌜ setsOf (now (places .exit)) (now (cvs .exit)) r ≡ noted n kind (now (body .entry)) (setsOf (now (places .entry)) (now (cvs .entry)) c) ⌝ }
+{
+    if is_other(kind) {
+        return c;
+    }
+    match read_field(kind, body) {
+        Field::Read { instance, cv } => place(kind, n, instance, cv, places, cvs, c),
+        Field::Unreadable => Counts {
+            unreadable: first(c.unreadable, n),
+            repeated: c.repeated,
+            highest: c.highest,
+        },
+    }
+}
+
+// The refusal of a walk over a block, 0 and 0 where there is none, and what was noted of its fields.
+struct Gathered {
+    number: u8,
+    place: usize,
+    counts: Counts,
+}
+
+// Notes all fields of a block, up to the first refusal.
+fn gather(s: &[u8], places: &mut [[u16; 3]; 50], cvs: &mut [u8; 50]) -> Gathered
+    requires { ⌜ length (now s) ≤ byteLimit ⌝ }
+    ensures { λ r. ⌜ GatheredFrom (now (s .entry)) (now (places .entry)) (now (cvs .entry)) (now (places .exit)) (now (cvs .exit)) r ⌝ }
+{
+    let mut at: usize = 0;
+    let mut count: usize = 0;
+    let mut c = Counts {
+        unreadable: 0,
+        repeated: 0,
+        highest: Instance::none().number,
+    };
+    loop {
+        match block::next_field(s, Walk { at, count }) {
+            Next::Field {
+                start,
+                name_end,
+                body_start,
+                end,
+            } => {
+                let kind = kind::kind_of(&s[start..name_end]);
+                c = note(kind, count + 1, &s[body_start..end - 2], places, cvs, c);
+                at = end;
+                count += 1;
+            }
+            Next::End => {
+                return Gathered {
+                    number: 0,
+                    place: 0,
+                    counts: c,
+                };
+            }
+            Next::Refused { number, place } => {
+                return Gathered {
+                    number,
+                    place,
+                    counts: c,
+                };
+            }
+        }
+    }
+}
+
+// Whether one of the first n instances has an empty place.
+fn has_empty(places: &[[u16; 3]; 50], n: usize) -> bool
+    requires { ⌜ (n ≤ 50) × Places (now places) ⌝ }
+    ensures { λ r. ⌜ r ≡ anyEmpty (take n (now (places .entry))) ⌝ }
+{
+    let mut found = false;
+    let mut i: usize = 0;
+    'search: while i < n {
+        let mut k: usize = 0;
+        while k < 3 {
+            if places[i][k] == 0 {
+                found = true;
+                break 'search;
+            }
+            k += 1;
+        }
+        i += 1;
+    }
+    found
+}
+
+// Whether the chain values of the first n instances are none and then pass.
+fn is_prescribed(cvs: &[u8; 50], n: usize) -> bool
+    requires { ⌜ (n ≤ 50) × (length (now cvs) ≡ 50) ⌝ }
+    ensures { λ r. ⌜ r ≡ prescribed (take n (now (cvs .entry))) ⌝ }
+{
+    if n == 0 {
+        return true;
+    }
+    if cvs[0] != 1 {
+        return false;
+    }
+    let mut i: usize = 1;
+    while i < n {
+        if cvs[i] != 2 {
+            return false;
+        }
+        i += 1;
+    }
+    true
+}
+
+// Whether the verdicts are n bytes from 0 to 3.
+fn are_valid(n: usize, v: &[u8]) -> bool
+    ensures { λ r. ⌜ r ≡ validFor n (now (v .entry)) ⌝ }
+{
+    if v.len() != n {
+        return false;
+    }
+    let mut i: usize = 0;
+    while i < v.len() {
+        if v[i] > 3 {
+            return false;
+        }
+        i += 1;
+    }
+    true
+}
+
+// Whether all seals are good.
+fn seals_good(v: &[u8]) -> bool
+    ensures { λ r. ⌜ r ≡ all sealGood (now (v .entry)) ⌝ }
+{
+    let mut i: usize = 0;
+    while i < v.len() {
+        if v[i] < 2 {
+            return false;
+        }
+        i += 1;
+    }
+    true
+}
+
+// Whether all seals and the last signature are good.
+fn is_pass(v: &[u8]) -> bool
+    ensures { λ r. ⌜ r ≡ passes (now (v .entry)) ⌝ }
+{
+    if v.len() == 0 {
+        return false;
+    }
+    if v[v.len() - 1] % 2 == 1 {
+        return seals_good(v);
+    }
+    false
+}
+
+// One more than the highest instance with a bad signature; 0 if all are good.
+fn oldest_pass(v: &[u8]) -> usize
+    ensures { λ r. ⌜ r ≡ oldestPass (now (v .entry)) ⌝ }
+{
+    let mut i = v.len();
+    while i > 0 {
+        if v[i - 1] % 2 == 0 {
+            return i + 1;
+        }
+        i -= 1;
+    }
+    0
+}
+
+fn blank(number: u8, place: usize) -> Judged
+    ensures { λ r. ⌜ r ≡ answerOf (blank number place) ⌝ }
+{
+    Judged {
+        number,
+        place,
+        outcome: 0,
+        reason: 0,
+        field: 0,
+        instances: 0,
+        status: 0,
+        oldest: 0,
+    }
+}
+
+fn failed(reason: u8, field: usize, v: &[u8]) -> Judged
+    ensures { λ r. ⌜ r ≡ answerOf (judged (failed reason field) (now (v .entry))) ⌝ }
+{
+    Judged {
+        number: 0,
+        place: 0,
+        outcome: 1,
+        reason,
+        field,
+        instances: 0,
+        status: 2,
+        oldest: 0,
+    }
+}
+
+// The answer where a chain of n instances is built.
+fn weigh(n: usize, v: &[u8]) -> Judged
+    ensures { λ r. ⌜ r ≡ answerOf (judged (built n) (now (v .entry))) ⌝ }
+{
+    if !are_valid(n, v) {
+        return blank(10, 0);
+    }
+    if is_pass(v) {
+        return Judged {
+            number: 0,
+            place: 0,
+            outcome: 2,
+            reason: 0,
+            field: 0,
+            instances: n,
+            status: 1,
+            oldest: oldest_pass(v),
+        };
+    }
+    Judged {
+        number: 0,
+        place: 0,
+        outcome: 2,
+        reason: 0,
+        field: 0,
+        instances: n,
+        status: 2,
+        oldest: 0,
+    }
+}
+
+// The answer where every ARC field reads, none is repeated, and n is the highest instance.
+fn rank(places: &[[u16; 3]; 50], cvs: &[u8; 50], n: usize, v: &[u8]) -> Judged
+    requires { ⌜ ((1 ≤ n) × (n ≤ 50)) × (Places (now places) × (length (now cvs) ≡ 50)) ⌝ }
+    ensures { λ r. ⌜ r ≡ answerOf (judged (rankedBy n (now (places .entry)) (now (cvs .entry))) (now (v .entry))) ⌝ }
+{
+    if has_empty(places, n) {
+        return failed(3, 0, v);
+    }
+    if cvs[n - 1] == 3 {
+        return failed(4, 0, v);
+    }
+    if is_prescribed(cvs, n) {
+        return weigh(n, v);
+    }
+    failed(5, 0, v)
+}
+
+pub fn judge(s: &[u8], verdicts: &[u8]) -> Judged
+    ensures { λ r. ⌜ r ≡ answerOf (judge (now (s .entry)) (now (verdicts .entry))) ⌝ }
+{
+    if lexis::too_long(s) {
+        return blank(1, 0);
+    }
+    let mut places = [[0u16; 3]; 50];
+    let mut cvs = [0u8; 50];
+    let g = gather(s, &mut places, &mut cvs);
+    if g.number != 0 {
+        return blank(g.number, g.place);
+    }
+    if g.counts.unreadable != 0 {
+        return failed(1, g.counts.unreadable, verdicts);
+    }
+    if g.counts.repeated != 0 {
+        return failed(2, g.counts.repeated, verdicts);
+    }
+    if g.counts.highest == 0 {
+        return blank(0, 0);
+    }
+    rank(&places, &cvs, g.counts.highest, verdicts)
+}

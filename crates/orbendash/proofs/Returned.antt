@@ -1,0 +1,40 @@
+-- A struct for hosts has what the library's answer has, field by field. Assumes nothing.
+use Prim.Native.Nat.{ℕ}
+use mathlib.Core.Path.{_≡_}
+use Rattle.strip.specs.declared.Stripped.{Stripped}
+use Rattle.strip.specs.Strip as strip
+use Rattle.strip.specs.Answers as stripping
+use Rattle.body.specs.Report as report
+use Rattle.report.specs.declared.Reported.{Reported}
+use Rattle.report.specs.Answers as reporting
+use Rattle.arc.specs.declared.Judged.{Judged}
+use Rattle.arc.specs.Chain as arc
+use Rattle.arc.specs.Answers as judging
+use Rattle.orbendash.specs.declared.StripFace.{StripFace}
+use Rattle.orbendash.specs.declared.ReportFace.{ReportFace}
+use Rattle.orbendash.specs.declared.JudgeFace.{JudgeFace}
+use Rattle.orbendash.specs.Faces.{stripFace, reportFace, toldBy, judgeFace}
+
+pub strip-faced : (r : Stripped) (a : strip.Answer) → r ≡ stripping.answerOf a
+    → _≡_ {A = StripFace} (record { number = r .number; place = r .place; kept = r .kept; removed = r .removed; fields = r .fields }) (stripFace a)
+strip-faced r a e = rw e
+
+pub report-faced : (r : Reported) (a : report.Answer) → r ≡ reporting.answerOf a
+    → _≡_ {A = ReportFace} (record { number = r .number; place = r .place; written = r .written; ignored = r .ignored }) (reportFace a)
+report-faced r a e = rw e
+
+pub judge-faced : (r : Judged) (a : arc.Answer) → r ≡ judging.answerOf a → (t : ℕ) → t ≡ toldBy (r .status)
+    → _≡_ {A = JudgeFace}
+    (record {
+      number = r .number;
+      outcome = r .outcome;
+      reason = r .reason;
+      status = r .status;
+      told = t;
+      place = r .place;
+      field = r .field;
+      instances = r .instances;
+      oldest = r .oldest;
+    })
+    (judgeFace a)
+judge-faced r a e t h = rw (h, e)

@@ -1,0 +1,42 @@
+-- What the functions for hosts return, by the definitions of the library's calls. Assumes nothing: these are definitions.
+use Prim.Native.Nat.{ℕ}
+use mathlib.Core.Bool.{cond}
+use lib.Dec.{eqb}
+use lib.ListN.{length}
+use Rattle.strip.specs.Strip as strip
+use Rattle.body.specs.Report as report
+use Rattle.arc.specs.Chain as arc
+use Rattle.fields.specs.declared.Step.{Step}
+use Rattle.fields.specs.declared.Step.the-variants.{Field, Last}
+use Rattle.orbendash.specs.declared.StripFace.{StripFace}
+use Rattle.orbendash.specs.declared.ReportFace.{ReportFace}
+use Rattle.orbendash.specs.declared.JudgeFace.{JudgeFace}
+use Rattle.orbendash.specs.declared.NextFace.{NextFace}
+
+abbrev pub stripFace : strip.Answer → StripFace
+stripFace a = record { number = a .number; place = a .place; kept = a .kept; removed = a .removed; fields = a .fields }
+
+abbrev pub reportFace : report.Answer → ReportFace
+reportFace a = record { number = a .number; place = a .place; written = length (a .written); ignored = a .ignored }
+
+-- there is an oldest-pass exactly where the status is pass
+abbrev pub toldBy : ℕ → ℕ
+toldBy status = cond (eqb status 1) 1 0
+
+abbrev pub judgeFace : arc.Answer → JudgeFace
+judgeFace a =
+    record {
+      number = a .number;
+      outcome = a .outcome;
+      reason = a .reason;
+      status = a .status;
+      told = toldBy (a .status);
+      place = a .place;
+      field = a .field;
+      instances = a .instances;
+      oldest = a .oldest;
+    }
+
+abbrev pub nextFace : Step → NextFace
+nextFace (Field a n b e) = record { number = 0; found = 1; place = 0; start = a; named = n; bodied = b; end = e }
+nextFace (Last n p) = record { number = n; found = 0; place = p; start = 0; named = 0; bodied = 0; end = 0 }

@@ -1,0 +1,148 @@
+// The face for hosts: functions for C and for Rust over the library's calls, with the same answers.
+//
+// A slice is a pointer and a length. A struct is returned by value. On a refusal all but number and place are 0.
+use fields::Step;
+ghost use mathlib.Core.Path.{_≡_};
+ghost use lib.ListN.{length};
+ghost use Rattle.strip.specs.Strip.{strip};
+ghost use Rattle.strip.specs.Answers as stripping;
+ghost use Rattle.body.specs.Report.{report};
+ghost use Rattle.report.specs.Answers as reporting;
+ghost use Rattle.arc.specs.Chain.{judge};
+ghost use Rattle.fields.specs.Steps.{stepFrom};
+ghost use Rattle.orbendash.specs.Faces.{stripFace, reportFace, toldBy, judgeFace, nextFace};
+
+#[repr(C)]
+pub struct StripFace {
+    pub number: u8,
+    pub place: usize,
+    pub kept: usize,
+    pub removed: usize,
+    pub fields: usize,
+}
+
+#[repr(C)]
+pub struct ReportFace {
+    pub number: u8,
+    pub place: usize,
+    pub written: usize,
+    pub ignored: usize,
+}
+
+// `told` is 1 where there is an oldest-pass.
+#[repr(C)]
+pub struct JudgeFace {
+    pub number: u8,
+    pub outcome: u8,
+    pub reason: u8,
+    pub status: u8,
+    pub told: u8,
+    pub place: usize,
+    pub field: usize,
+    pub instances: usize,
+    pub oldest: usize,
+}
+
+// A field runs from `start` up to `end`, with its last CRLF; its name up to `named`, its body from `bodied` up to two before `end`.
+#[repr(C)]
+pub struct NextFace {
+    pub number: u8,
+    pub found: u8,
+    pub place: usize,
+    pub start: usize,
+    pub named: usize,
+    pub bodied: usize,
+    pub end: usize,
+}
+
+// The block without the Authentication-Results fields that speak in our own name or in none (`strip::strip`).
+#[no_mangle]
+pub extern "C" fn orbendash_strip(s: &[u8], list: &[u8], out: &mut [u8]) -> StripFace
+    ensures { λ r. ⌜ r ≡ stripFace (strip (now (s .entry)) (now (list .entry)) (length (now (out .entry)))) ⌝ }
+    ensures { λ _. ⌜ now (out .exit) ≡ stripping.leaves (strip (now (s .entry)) (now (list .entry)) (length (now (out .entry)))) (now (out .entry)) ⌝ }
+{
+    let r = strip::strip(s, list, out);
+    StripFace {
+        number: r.number,
+        place: r.place,
+        kept: r.kept,
+        removed: r.removed,
+        fields: r.fields,
+    }
+}
+
+// The report of a field body (`report::report`).
+#[no_mangle]
+pub extern "C" fn orbendash_report(body: &[u8], out: &mut [u8]) -> ReportFace
+    ensures { λ r. ⌜ r ≡ reportFace (report (now (body .entry)) (length (now (out .entry)))) ⌝ }
+    ensures { λ _. ⌜ now (out .exit) ≡ reporting.leaves (report (now (body .entry)) (length (now (out .entry)))) (now (out .entry)) ⌝ }
+{
+    let r = report::report(body, out);
+    ReportFace {
+        number: r.number,
+        place: r.place,
+        written: r.written,
+        ignored: r.ignored,
+    }
+}
+
+// 1 for the status pass, which is where there is an oldest-pass.
+fn told(status: u8) -> u8
+    ensures { λ r. ⌜ r ≡ toldBy status ⌝ }
+{
+    if status == 1 {
+        return 1;
+    }
+    0
+}
+
+// Whether the ARC chain of a block is built, and what it says by the verdicts (`arc::judge`).
+#[no_mangle]
+pub extern "C" fn orbendash_judge(s: &[u8], verdicts: &[u8]) -> JudgeFace
+    ensures { λ r. ⌜ r ≡ judgeFace (judge (now (s .entry)) (now (verdicts .entry))) ⌝ }
+{
+    let r = arc::judge(s, verdicts);
+    JudgeFace {
+        number: r.number,
+        outcome: r.outcome,
+        reason: r.reason,
+        status: r.status,
+        told: told(r.status),
+        place: r.place,
+        field: r.field,
+        instances: r.instances,
+        oldest: r.oldest,
+    }
+}
+
+// A step of the walking reader from a place: a field, or the last answer (`fields::field_from`).
+#[no_mangle]
+pub extern "C" fn orbendash_next_field(s: &[u8], place: usize) -> NextFace
+    ensures { λ r. ⌜ r ≡ nextFace (stepFrom (now (s .entry)) place) ⌝ }
+{
+    match fields::field_from(s, place) {
+        Step::Field {
+            start,
+            name_end,
+            body_start,
+            end,
+        } => NextFace {
+            number: 0,
+            found: 1,
+            place: 0,
+            start,
+            named: name_end,
+            bodied: body_start,
+            end,
+        },
+        Step::Last { number, place: at } => NextFace {
+            number,
+            found: 0,
+            place: at,
+            start: 0,
+            named: 0,
+            bodied: 0,
+            end: 0,
+        },
+    }
+}
