@@ -1,0 +1,111 @@
+/*
+ * Strips a header block, reports what is left, and judges its ARC chain.
+ *
+ *   cc -o example example.c ../../target/staticlib/liborbendash.a
+ *   ./example BLOCK IDENTIFIER...
+ *
+ * BLOCK is a file with a header block: lines ended by CRLF, without the empty line after it.
+ * The identifiers are our own, as mx.example.com.
+ */
+#include "orbendash.h"
+
+#include <stdio.h>
+#include <string.h>
+#include <strings.h>
+
+enum { BLOCK = 65536, LIST = 64 * 256, INSTANCES = 50 };
+
+/* One byte more than a block may have, so that a longer file is refused and not cut. */
+static uint8_t block[BLOCK + 1];
+static uint8_t kept[BLOCK];
+static uint8_t report[3 * BLOCK + 8];
+static uint8_t list[LIST];
+static uint8_t verdicts[INSTANCES];
+
+static int refused(const char *call, unsigned number, size_t place) {
+    fprintf(stderr, "%s: answer %u at %zu\n", call, number, place);
+    return (int)number;
+}
+
+static int is_named(const uint8_t *from, const orbendash_field_answer *field, const char *name) {
+    size_t length = field->name_end - field->start;
+    return length == strlen(name) &&
+           strncasecmp((const char *)from + field->start, name, length) == 0;
+}
+
+int main(int count, char **words) {
+    if (count < 2) {
+        fprintf(stderr, "usage: %s BLOCK IDENTIFIER...\n", words[0]);
+        return 64;
+    }
+    FILE *file = fopen(words[1], "rb");
+    if (file == NULL) {
+        perror(words[1]);
+        return 66;
+    }
+    size_t length = fread(block, 1, sizeof block, file);
+    fclose(file);
+
+    /* Each entry of the list is ended by LF. */
+    size_t list_length = 0;
+    for (int word = 2; word < count; word++) {
+        size_t entry = strlen(words[word]);
+        if (entry >= LIST - list_length) {
+            fprintf(stderr, "too many identifiers\n");
+            return 64;
+        }
+        memcpy(list + list_length, words[word], entry);
+        list_length += entry;
+        list[list_length++] = '\n';
+    }
+
+    orbendash_strip_answer strip =
+        orbendash_strip(block, length, list, list_length, kept, sizeof kept);
+    if (strip.number != ORBENDASH_DONE)
+        return refused("strip", strip.number, strip.place);
+    printf("stripped: %zu fields, %zu bytes removed, %zu bytes kept\n", strip.fields,
+           strip.removed, strip.kept);
+
+    /* The block is sound, or it would not have been stripped: the walk gives all its fields. */
+    size_t seals = 0;
+    size_t place = 0;
+    for (size_t number = 1;; number++) {
+        orbendash_field_answer field = orbendash_next_field(kept, strip.kept, place);
+        if (!field.found)
+            break;
+        place = field.end;
+        seals += is_named(kept, &field, "ARC-Seal");
+        if (!is_named(kept, &field, "Authentication-Results"))
+            continue;
+        orbendash_report_answer answer =
+            orbendash_report(kept + field.body_start, field.end - 2 - field.body_start, report,
+                             sizeof report);
+        printf("field %zu: answer %u, %zu results ignored\n", number, answer.number,
+               answer.ignored);
+        fwrite(report, 1, answer.written, stdout);
+    }
+
+    /* A gateway has verified the signatures; here all of them are taken to be good. A chain
+       with more seals than instances can be is never built, and its verdicts aren't read. */
+    if (seals > INSTANCES)
+        seals = INSTANCES;
+    memset(verdicts, 3, seals);
+    orbendash_judge_answer chain = orbendash_judge(kept, strip.kept, verdicts, seals);
+    if (chain.number != ORBENDASH_DONE)
+        return refused("judge", chain.number, chain.place);
+    static const char *const outcomes[] = {"none", "failed", "built"};
+    static const char *const statuses[] = {"none", "pass", "fail"};
+    printf("ARC: outcome %s", outcomes[chain.outcome]);
+    if (chain.outcome == ORBENDASH_CHAIN_FAILED) {
+        printf(" for reason %c", " abcde"[chain.reason]);
+        if (chain.field != 0)
+            printf(" at field %zu", chain.field);
+    }
+    if (chain.outcome == ORBENDASH_CHAIN_BUILT)
+        printf(" with %zu instances", chain.instances);
+    printf(", status %s", statuses[chain.status]);
+    if (chain.has_oldest_pass)
+        printf(", oldest-pass %zu", chain.oldest_pass);
+    printf("\n");
+    return 0;
+}

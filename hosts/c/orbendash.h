@@ -1,0 +1,196 @@
+/*
+ * Orbendash: Authentication-Results and ARC header fields for mail gateways.
+ *
+ * Four calls, each on bytes that the caller owns: strip forged fields from a header block,
+ * report one field body, judge the ARC chain of a block, and walk a block's fields. Link with
+ * liborbendash.a.
+ *
+ * Any bytes may be handed in. Every call ends, keeps nothing, and answers with a struct by
+ * value. A header block has no empty line after it, and its lines end with CRLF.
+ *
+ * A pointer and the length after it are one piece of memory. Hand in a pointer to something
+ * also where the length is 0. An output must not overlap an input.
+ */
+#ifndef ORBENDASH_H
+#define ORBENDASH_H
+
+#include <stddef.h>
+#include <stdint.h>
+
+#ifdef __cplusplus
+extern "C" {
+#endif
+
+/*
+ * Answer numbers. All but 0 and 8 are refusals: nothing is written, and in the struct all but
+ * number and place are 0. On every answer the bytes of the output past those written stay as
+ * they were.
+ */
+enum {
+    /* Done. Place 0. */
+    ORBENDASH_DONE = 0,
+    /* The block or body is over 65536 bytes. Place 0. */
+    ORBENDASH_TOO_LONG = 1,
+    /* A CR without LF, an LF without CR, or a last line without CRLF. Place: that byte; for an
+       unfinished line the block's length. */
+    ORBENDASH_BAD_LINE_END = 2,
+    /* An empty line, a first line that starts with space or tab, or a field that lacks its name
+       or colon. Place: start of the line. */
+    ORBENDASH_BAD_LINE = 3,
+    /* A 513th field. Place: its start. */
+    ORBENDASH_TOO_MANY_FIELDS = 4,
+    /* A bad own list. Place: start of the first bad entry. */
+    ORBENDASH_BAD_LIST = 5,
+    /* The output is shorter than all that would be written. Place: the bytes needed. */
+    ORBENDASH_NO_ROOM = 6,
+    /* The identifier can't be read. Place 0. */
+    ORBENDASH_BAD_IDENTIFIER = 7,
+    /* The header version isn't 1; the id and v lines are written. Place 0. */
+    ORBENDASH_OTHER_VERSION = 8,
+    /* The body isn't well-formed. Place 0. */
+    ORBENDASH_BAD_BODY = 9,
+    /* The verdicts don't fit the chain. Place 0. */
+    ORBENDASH_BAD_VERDICTS = 10
+};
+
+/* ---- Strip ---- */
+
+typedef struct {
+    uint8_t number; /* 0 to 6 */
+    size_t place;   /* see the numbers */
+    size_t kept;    /* bytes kept, which are the bytes written */
+    size_t removed; /* bytes removed; kept + removed is the block's length */
+    size_t fields;  /* fields removed */
+} orbendash_strip_answer;
+
+/*
+ * Copies a header block to out without the Authentication-Results fields whose identifier is on
+ * our own list or can't be read.
+ *
+ * The list holds our identifiers, each ended by LF: at most 64, each of 1 to 255 bytes 33 to
+ * 126. It may be empty. Identifiers compare without regard to ASCII case. An output as long as
+ * the block is always long enough.
+ *
+ * The first of these that applies is the number: 1 the block is too long; 5 a bad list; 2, 3 or
+ * 4 a bad block; 6 no room; 0 done.
+ */
+orbendash_strip_answer orbendash_strip(const uint8_t *block, size_t block_length,
+                                       const uint8_t *list, size_t list_length,
+                                       uint8_t *out, size_t out_length);
+
+/* ---- Report ---- */
+
+typedef struct {
+    uint8_t number; /* 0, 1, 6, 7, 8 or 9 */
+    size_t place;   /* see the numbers */
+    size_t written; /* bytes written */
+    size_t ignored; /* well-formed results that the report leaves out; 0 with number 8 */
+} orbendash_report_answer;
+
+/*
+ * Writes the report of one Authentication-Results body to out. The body runs from after the
+ * field's colon to before its last CRLF.
+ *
+ * The report's lines end with LF, its columns are parted by one tab:
+ *
+ *   id  text                            the identifier
+ *   none                                the field says that nothing was done
+ *   m   method  result                  a result
+ *   r   text                            its reason, if it has one
+ *   p   ptype  property  kind  text     each of its properties; the kind of value is
+ *                                       t token, q quoted, m mailbox or a at-domain
+ *   v   number                          with number 8 only, after the id line
+ *
+ * In texts the bytes outside 33 to 126 and the percent sign are % and two upper-case hex
+ * digits. Methods, results, ptypes and properties are in lower case. A result is ignored, and
+ * counted, if its method version isn't 1, or if the method, its result or a ptype isn't known.
+ * An output three times as long as the body and 8 bytes more is always long enough.
+ *
+ * The first of these that applies is the number: 1 the body is too long; 7 a bad identifier; 9
+ * a bad body; 6 no room; 8 another header version; 0 done. After a header version other than 1
+ * nothing is read, so a bad body is 8 or 6 then.
+ */
+orbendash_report_answer orbendash_report(const uint8_t *body, size_t body_length,
+                                         uint8_t *out, size_t out_length);
+
+/* ---- Judge ---- */
+
+/* Outcomes. */
+enum {
+    ORBENDASH_CHAIN_NONE = 0,   /* the block has no ARC fields */
+    ORBENDASH_CHAIN_FAILED = 1, /* the chain is broken; the reason says how */
+    ORBENDASH_CHAIN_BUILT = 2   /* the chain stands */
+};
+
+/* Reasons of a failed chain, the first that applies; 0 for the other outcomes. */
+enum {
+    ORBENDASH_UNREADABLE = 1, /* (a) a field can't be read; field names the first */
+    ORBENDASH_REPEATED = 2,   /* (b) a kind comes twice at one instance; field names the first
+                                     field that repeats one */
+    ORBENDASH_MISSING = 3,    /* (c) a kind is missing at an instance up to the highest */
+    ORBENDASH_CV_FAIL = 4,    /* (d) the seal at the highest instance has cv fail */
+    ORBENDASH_CV_ORDER = 5    /* (e) the seal at 1 isn't cv none, or a later one isn't cv pass */
+};
+
+/* Statuses. */
+enum {
+    ORBENDASH_STATUS_NONE = 0, /* no chain */
+    ORBENDASH_STATUS_PASS = 1, /* built, all seals good, and the newest signature good */
+    ORBENDASH_STATUS_FAIL = 2  /* any other */
+};
+
+typedef struct {
+    uint8_t number;          /* 0 to 4 or 10 */
+    uint8_t outcome;         /* see the outcomes */
+    uint8_t reason;          /* see the reasons */
+    uint8_t status;          /* see the statuses */
+    uint8_t has_oldest_pass; /* 1 if the status is pass, and oldest_pass says something */
+    size_t place;            /* see the numbers */
+    size_t field;            /* with reason 1 or 2 the field's number among all fields of the
+                                block, from 1; else 0 */
+    size_t instances;        /* the highest instance if the chain is built, else 0 */
+    size_t oldest_pass;      /* 0 if all signatures are good, else one more than the highest
+                                instance with a bad one */
+} orbendash_judge_answer;
+
+/*
+ * Judges the ARC chain of a header block from the verdicts on its signatures.
+ *
+ * Verdicts are read only if the chain is built. They are then one byte for each instance from
+ * 1: 2 if its ARC-Seal is good, plus 1 if its ARC-Message-Signature is good. A chain that is
+ * built has as many instances as the block has ARC-Seal fields.
+ *
+ * The first of these that applies is the number: 1 the block is too long; 2, 3 or 4 a bad
+ * block; 10 bad verdicts, of another count or with a byte over 3; 0 done.
+ */
+orbendash_judge_answer orbendash_judge(const uint8_t *block, size_t block_length,
+                                       const uint8_t *verdicts, size_t verdicts_length);
+
+/* ---- Walk ---- */
+
+typedef struct {
+    uint8_t number;    /* 0 to 4 */
+    uint8_t found;     /* 1 if a field is given; else 0, and so are the four offsets */
+    size_t place;      /* see the numbers; 0 with a field */
+    size_t start;      /* where the field starts */
+    size_t name_end;   /* where its name ends */
+    size_t body_start; /* where its body starts, after the colon; it ends at end - 2 */
+    size_t end;        /* where the field ends, its last CRLF included */
+} orbendash_field_answer;
+
+/*
+ * Gives the first field of a header block that starts at place or later. Begin with place 0 and
+ * go on with the end of the field given. Any place will do; each call reads the block from its
+ * front to the end of the field it gives.
+ *
+ * Number 0 with found 1: a field. Number 0 with found 0: there are no more, and the block is
+ * sound. 1: the block is too long. 2, 3 or 4: there are no more before the bad line.
+ */
+orbendash_field_answer orbendash_next_field(const uint8_t *block, size_t block_length,
+                                            size_t place);
+
+#ifdef __cplusplus
+}
+#endif
+
+#endif

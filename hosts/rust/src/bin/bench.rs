@@ -1,0 +1,572 @@
+//! Measures the four calls: `cargo run --release --bin bench`.
+//!
+//! The linked library, the independent implementation and a copy of the same bytes take turns,
+//! and the best of many short rounds counts, so that whatever else the machine does matters
+//! little. The inputs are realistic ones, and for each call 64 KiB of what might be slow. The
+//! last column says how much longer these take than half as many bytes: about 2 is linear.
+
+use std::hint::black_box;
+use std::time::{Duration, Instant};
+
+use orbendash_host as library;
+use orbendash_host::reference;
+
+#[path = "../../tests/common/appendix_b.rs"]
+mod appendix_b;
+
+use appendix_b::APPENDIX_B;
+
+const FULL: usize = 65_536;
+/// How long a row takes, and how many rounds it has at least.
+const ROW: Duration = Duration::from_millis(400);
+const ROUNDS: usize = 10;
+/// How long a call is repeated in each round.
+const ROUND_NANOSECONDS: u128 = 150_000;
+
+/// A call with its input.
+enum Call {
+    Strip {
+        block: Vec<u8>,
+        list: Vec<u8>,
+    },
+    Report {
+        bodies: Vec<Vec<u8>>,
+    },
+    Judge {
+        block: Vec<u8>,
+        verdicts: Vec<u8>,
+    },
+    NextField {
+        block: Vec<u8>,
+        place: usize,
+    },
+    /// All fields of a block, one call for each: on the whole block from place to place, or each
+    /// time on what is left, as the iterator of fields does.
+    Walk {
+        block: Vec<u8>,
+        on_rest: bool,
+    },
+}
+
+impl Call {
+    fn name(&self) -> &'static str {
+        match self {
+            Call::Strip { .. } => "strip",
+            Call::Report { .. } => "report",
+            Call::Judge { .. } => "judge",
+            Call::NextField { .. } => "next_field",
+            Call::Walk { .. } => "walk",
+        }
+    }
+
+    /// The bytes that are read, without list and verdicts.
+    fn input(&self) -> Vec<u8> {
+        match self {
+            Call::Report { bodies } => bodies.concat(),
+            Call::Strip { block, .. }
+            | Call::Judge { block, .. }
+            | Call::NextField { block, .. }
+            | Call::Walk { block, .. } => block.clone(),
+        }
+    }
+
+    /// Runs the library's call; the last answer number.
+    fn library(&self, out: &mut [u8]) -> u8 {
+        match self {
+            Call::Strip { block, list } => black_box(library::strip(block, list, out)).number,
+            Call::Report { bodies } => bodies
+                .iter()
+                .map(|body| black_box(library::report(body, out)).number)
+                .fold(0, |_, number| number),
+            Call::Judge { block, verdicts } => black_box(library::judge(block, verdicts)).number,
+            Call::NextField { block, place } => {
+                black_box(library::next_field(block, *place)).number
+            }
+            Call::Walk { block, on_rest } => walk(block, *on_rest, library::next_field),
+        }
+    }
+
+    /// The same with the independent implementation.
+    fn reference(&self, out: &mut [u8]) -> u8 {
+        match self {
+            Call::Strip { block, list } => black_box(reference::strip(block, list, out)).number,
+            Call::Report { bodies } => bodies
+                .iter()
+                .map(|body| black_box(reference::report(body, out)).number)
+                .fold(0, |_, number| number),
+            Call::Judge { block, verdicts } => black_box(reference::judge(block, verdicts)).number,
+            Call::NextField { block, place } => {
+                black_box(reference::next_field(block, *place)).number
+            }
+            Call::Walk { block, on_rest } => walk(block, *on_rest, reference::next_field),
+        }
+    }
+}
+
+fn walk(block: &[u8], on_rest: bool, step: fn(&[u8], usize) -> library::FieldAnswer) -> u8 {
+    let mut from = 0;
+    let mut place = 0;
+    loop {
+        let answer = black_box(step(&block[from..], place - from));
+        if answer.found == 0 {
+            return answer.number;
+        }
+        place = from + answer.end;
+        if on_rest {
+            from = place;
+        }
+    }
+}
+
+/// Nanoseconds for one call.
+struct Times {
+    number: u8,
+    bytes: usize,
+    library: f64,
+    reference: f64,
+    copy: f64,
+}
+
+/// How often a piece of work fits into a round.
+fn repeats<T>(mut work: impl FnMut() -> T) -> u32 {
+    let mut times = 1u32;
+    loop {
+        let start = Instant::now();
+        for _ in 0..times {
+            black_box(work());
+        }
+        let taken = start.elapsed().as_nanos().max(1);
+        if taken * 4 >= ROUND_NANOSECONDS || times >= 1 << 20 {
+            let fitting = u128::from(times) * ROUND_NANOSECONDS / taken;
+            return fitting.clamp(1, 1 << 22) as u32;
+        }
+        times *= 4;
+    }
+}
+
+fn time<T>(repeats: u32, mut work: impl FnMut() -> T) -> f64 {
+    let start = Instant::now();
+    for _ in 0..repeats {
+        black_box(work());
+    }
+    start.elapsed().as_nanos() as f64 / f64::from(repeats)
+}
+
+/// A call with its buffers and how often it is repeated in a round.
+struct Measured<'a> {
+    call: &'a Call,
+    input: Vec<u8>,
+    out: Vec<u8>,
+    repeats: [u32; 3],
+    times: Times,
+}
+
+impl<'a> Measured<'a> {
+    fn new(call: &'a Call) -> Self {
+        let input = call.input();
+        let mut out = vec![0; 3 * input.len() + 8];
+        let number = call.library(&mut out);
+        let other = call.reference(&mut out);
+        assert_eq!(number, other, "the answers to {} differ", call.name());
+        let repeats = [
+            repeats(|| call.library(&mut out)),
+            repeats(|| call.reference(&mut out)),
+            repeats(|| black_box(&mut out[..input.len()]).copy_from_slice(black_box(&input))),
+        ];
+        let times = Times {
+            number,
+            bytes: input.len(),
+            library: f64::MAX,
+            reference: f64::MAX,
+            copy: f64::MAX,
+        };
+        Measured {
+            call,
+            input,
+            out,
+            repeats,
+            times,
+        }
+    }
+
+    fn round(&mut self) {
+        let Measured {
+            call, input, out, ..
+        } = self;
+        let [library, reference, copy] = self.repeats;
+        let library = time(library, || call.library(out));
+        let reference = time(reference, || call.reference(out));
+        let copy = time(copy, || {
+            black_box(&mut out[..input.len()]).copy_from_slice(black_box(input));
+        });
+        self.times.library = self.times.library.min(library);
+        self.times.reference = self.times.reference.min(reference);
+        self.times.copy = self.times.copy.min(copy);
+    }
+}
+
+/// Measures calls that take turns.
+fn measure<const N: usize>(calls: [&Call; N]) -> [Times; N] {
+    let mut measured = calls.map(Measured::new);
+    let start = Instant::now();
+    let mut rounds = 0;
+    while rounds < ROUNDS || start.elapsed() < ROW {
+        for one in &mut measured {
+            one.round();
+        }
+        rounds += 1;
+    }
+    measured.map(|one| one.times)
+}
+
+fn print_row(call: &Call, input: &str, times: &Times, growth: Option<f64>) {
+    let growth = growth.map_or("-".to_string(), |growth| format!("{growth:.2}"));
+    println!(
+        "{:<11}{:<36}{:>6}{:>8}{:>13.0}{:>11.2}{:>9.1}{:>12}",
+        call.name(),
+        input,
+        times.number,
+        times.bytes,
+        times.library,
+        times.library / times.reference,
+        times.library / times.copy,
+        growth
+    );
+}
+
+fn realistic(input: &str, call: Call) {
+    let [times] = measure([&call]);
+    print_row(&call, input, &times, None);
+}
+
+/// Measures an input of full and of half size.
+fn adversarial(input: &str, make: impl Fn(usize) -> Call) {
+    let call = make(FULL);
+    let [half, full] = measure([&make(FULL / 2), &call]);
+    assert!(
+        full.bytes <= FULL && full.bytes * 100 > FULL * 95,
+        "{input}"
+    );
+    print_row(&call, input, &full, Some(full.library / half.library));
+}
+
+// Inputs.
+
+/// A header block as a mailing list's subscriber may get it: 30 fields, two ARC sets.
+fn mail() -> Vec<u8> {
+    let mut block = String::from(
+        "Return-Path: <bounces+user=example.com@lists.example.org>\r\n\
+         Delivered-To: user@example.com\r\n\
+         Authentication-Results: mx.example.com;\r\n\
+         \tdkim=pass (2048-bit key; unprotected) header.d=lists.example.org header.i=@lists.example.org\r\n\
+         \t header.a=rsa-sha256 header.s=dk2024 header.b=oINEO8hg;\r\n\
+         \tspf=pass (mx.example.com: domain of bounces@lists.example.org designates 192.0.2.17 as\r\n\
+         \t permitted sender) smtp.mailfrom=bounces@lists.example.org;\r\n\
+         \tdmarc=fail reason=\"altered by the list\" (p=none) header.from=sender.example;\r\n\
+         \tarc=pass (as.2.lists.example.org=pass)\r\n",
+    );
+    let signature = "CU87XzXlNlk5X/yW4l73UvPUcP9ivwYWxyBWcVrRs7\r\n\
+         \t +HPx3K05nJhny2fvymbReAmOA9GTH/y+k9kEc59hAKVgo71vwyLsK+Wm4cOSlirXoRwzEvi0vqId\r\n\
+         \t /2/GkYFYlSd/GGfKzkAgPqxfK7ccBMP7Zjb/mpeggswHjEMS8x5NQDsoD3n3hiwlrN1ma8IZQFgZ\r\n\
+         \t x8EDO7Wah3hUjIEsYKuShRKYB4LwGUiKD5YyHgcIwGHhSc/4+ewYqHMWDnuFxiQTlCCKzgk3TrAa==";
+    for (instance, cv, domain) in [
+        (2, "pass", "lists.example.org"),
+        (1, "none", "relay.example.net"),
+    ] {
+        block += &format!(
+            "ARC-Seal: i={instance}; a=rsa-sha256; d={domain}; s=arc-2024; t=1700000000; cv={cv};\r\n\
+             \tb={signature}\r\n\
+             ARC-Message-Signature: i={instance}; a=rsa-sha256; c=relaxed/relaxed; d={domain};\r\n\
+             \ts=arc-2024; t=1700000000; h=from:to:cc:subject:date:message-id:mime-version:content-type:\r\n\
+             \t content-transfer-encoding:in-reply-to:references:list-id;\r\n\
+             \tbh=KWSe46TZKCcDbH4klJPo+tjk5LWJnVRlP5pvjXFZYLQ=;\r\n\
+             \tb={signature}\r\n\
+             ARC-Authentication-Results: i={instance}; {domain};\r\n\
+             \tdkim=pass header.d=sender.example; spf=pass smtp.mailfrom=who@sender.example;\r\n\
+             \tdmarc=pass header.from=sender.example\r\n"
+        );
+    }
+    for hop in 1..=6 {
+        block += &format!(
+            "Received: from relay-{hop}.example.net (relay-{hop}.example.net [192.0.2.{hop}])\r\n\
+             \t(using TLSv1.3 with cipher TLS_AES_256_GCM_SHA384 (256/256 bits))\r\n\
+             \tby mx-{hop}.example.org (Postfix) with ESMTPS id 4S{hop}aBcDeFgHiJ\r\n\
+             \tfor <user@example.com>; Tue, 14 Nov 2023 22:1{hop}:20 +0000 (UTC)\r\n"
+        );
+    }
+    block += &format!(
+        "Authentication-Results: relay.example.net; dkim=pass header.d=sender.example\r\n\
+         DKIM-Signature: v=1; a=rsa-sha256; c=relaxed/relaxed; d=lists.example.org; s=dk2024;\r\n\
+         \tt=1700000000; h=from:to:subject:date:list-id; bh=KWSe46TZKCcDbH4klJPo+tjk5LWJnVRlP5pvjXFZYLQ=;\r\n\
+         \tb={signature}\r\n\
+         DKIM-Signature: v=1; a=rsa-sha256; c=relaxed/relaxed; d=sender.example; s=s1;\r\n\
+         \tt=1700000000; h=from:to:subject:date; bh=KWSe46TZKCcDbH4klJPo+tjk5LWJnVRlP5pvjXFZYLQ=;\r\n\
+         \tb={signature}\r\n\
+         From: Somebody Else <somebody.else@sender.example>\r\n\
+         To: The List <list@lists.example.org>\r\n\
+         Subject: Re: [list] How the header fields of a forwarded message add up\r\n\
+         Date: Tue, 14 Nov 2023 23:13:20 +0100\r\n\
+         Message-ID: <54B84785.1060301@sender.example>\r\n\
+         In-Reply-To: <CAGx7y2@mail.sender.example>\r\n\
+         References: <CAGx7y0@mail.sender.example> <CAGx7y1@mail.sender.example>\r\n\
+         \t<CAGx7y2@mail.sender.example>\r\n\
+         MIME-Version: 1.0\r\n\
+         Content-Type: multipart/alternative; boundary=\"----=_Part_1234_567890.1700000000\"\r\n\
+         List-Id: The List <list.lists.example.org>\r\n\
+         List-Unsubscribe: <https://lists.example.org/unsubscribe/list>\r\n\
+         Precedence: list\r\n"
+    );
+    block.into_bytes()
+}
+
+/// A piece as often as it fits between a start and an end.
+fn filled(size: usize, start: &[u8], piece: &[u8], end: &[u8]) -> Vec<u8> {
+    let times = (size - start.len() - end.len()) / piece.len();
+    [start, &piece.repeat(times), end].concat()
+}
+
+/// Fields that fill the size together; each starts with one of the given and is padded.
+fn fields(size: usize, count: usize, start: impl Fn(usize) -> String) -> Vec<u8> {
+    let mut block = Vec::new();
+    for index in 0..count {
+        block.extend(start(index).bytes());
+        block.resize(size * (index + 1) / count - 2, b'x');
+        block.extend(b"\r\n");
+    }
+    block
+}
+
+/// 16 deep, the most that is read.
+const DEEP: &[u8] = b"((((((((((((((((x))))))))))))))))";
+
+fn strip(block: Vec<u8>, list: &[u8]) -> Call {
+    Call::Strip {
+        block,
+        list: list.to_vec(),
+    }
+}
+
+fn report(body: Vec<u8>) -> Call {
+    Call::Report { bodies: vec![body] }
+}
+
+fn judge(block: Vec<u8>) -> Call {
+    Call::Judge {
+        block,
+        verdicts: vec![3; 50],
+    }
+}
+
+/// 64 entries that differ from the given in their last byte only.
+fn near_misses(id: &str) -> Vec<u8> {
+    (0..64u8)
+        .flat_map(|n| [id.as_bytes(), &[b'A' + n % 58, b'\n']].concat())
+        .collect()
+}
+
+/// A seal with so many bytes of tags that have nothing but distinct names.
+fn tags(size: usize, name: impl Fn(usize) -> String) -> Vec<u8> {
+    let mut block = b"ARC-Seal: i=1; a=;b=;d=;s=;cv=none".to_vec();
+    for number in 0.. {
+        let tag = format!(";{}=", name(number));
+        if block.len() + tag.len() + 2 > size {
+            break;
+        }
+        block.extend(tag.bytes());
+    }
+    block.extend(b"\r\n");
+    block
+}
+
+/// A number in letters and digits, always four of them.
+fn letters(number: usize) -> String {
+    const DIGITS: &[u8; 36] = b"abcdefghijklmnopqrstuvwxyz0123456789";
+    [46_656, 1296, 36, 1]
+        .map(|worth| char::from(DIGITS[number / worth % 36]))
+        .iter()
+        .collect()
+}
+
+/// An input made of one piece, as often as it fits: name, start, piece, end.
+type Filled = (&'static str, &'static [u8], &'static [u8], &'static [u8]);
+
+/// Blocks of one field for strip.
+#[rustfmt::skip]
+const FIELDS: &[Filled] = &[
+    ("one field, one long comment", b"Authentication-Results:(", b"x", b")other.example;none\r\n"),
+    ("one field, comments 16 deep", b"Authentication-Results:", DEEP, b"a;none\r\n"),
+    ("one field, comment unclosed", b"Authentication-Results:(", b"x", b"\r\n"),
+    ("one field, lines of 3 bytes", b"Authentication-Results:", b"\r\n ", b"a;none\r\n"),
+    ("one field, long identifier", b"Authentication-Results:", b"x", b";none\r\n"),
+    ("one field, long quoted identifier", b"Authentication-Results:\"", b"\\x", b"\";none\r\n"),
+    ("one field, thousands of results", b"Authentication-Results:a", b";spf=pass", b"\r\n"),
+    ("one field of another name", b"X:", b"x", b"\r\n"),
+];
+
+/// Bodies for report.
+#[rustfmt::skip]
+const BODIES: &[Filled] = &[
+    ("one long comment", b"(", b"x", b")a;none"),
+    ("comments 16 deep", b"", DEEP, b"a;none"),
+    ("comments 16 deep, then one of 17", b"", DEEP, b"(((((((((((((((((x)))))))))))))))))a;none"),
+    ("comment unclosed", b"a;spf=pass (", b"x", b""),
+    ("lines of 3 bytes", b"", b"\r\n ", b"a;none"),
+    ("long identifier, all escaped", b"", b"%", b";none"),
+    ("long quoted identifier", b"\"", b"\\\"", b"\";none"),
+    ("long header version", b"a ", b"0", b"2;"),
+    ("results", b"a", b";spf=pass", b""),
+    ("results, the last one broken", b"a", b";spf=pass", b";"),
+    ("results of a newer version", b"a", b";spf/2=pass", b""),
+    ("properties", b"a;spf=pass", b" smtp.a=b", b""),
+    ("properties, the last one unknown", b"a;spf=pass", b" smtp.a=b", b" dns.a=b"),
+    ("properties with mailboxes", b"a;spf=pass", b" smtp.a=b.c@d.e", b""),
+    ("properties with quoted values", b"a;spf=pass", b" smtp.a=\"b\\c\"", b""),
+    ("long local part", b"a;spf=pass smtp.a=", b"x.", b"x@a.b"),
+    ("long domain", b"a;spf=pass smtp.a=@a", b".b", b""),
+    ("long keyword", b"a;", b"m-", b"m=pass"),
+    ("keyword with hyphens at its end", b"a;spf=p", b"-", b""),
+];
+
+/// Blocks of one seal for judge.
+#[rustfmt::skip]
+const SEALS: &[Filled] = &[
+    ("one seal, one long comment", b"ARC-Seal:(", b"x", b")i=1;a=;b=;d=;s=;cv=none\r\n"),
+    ("one seal, comments 16 deep", b"ARC-Seal:", DEEP, b"i=1;a=;b=;d=;s=;cv=none\r\n"),
+    ("one seal, one long value", b"ARC-Seal:i=1;a=;d=;s=;cv=none;b=", b"x", b"\r\n"),
+    ("one seal, value of short words", b"ARC-Seal:i=1;a=;d=;s=;cv=none;b=", b"x ", b"x\r\n"),
+];
+
+/// Blocks of one field for next_field.
+#[rustfmt::skip]
+const WALKED: &[Filled] = &[
+    ("one field", b"X:", b"x", b"\r\n"),
+    ("one field, lines of 3 bytes", b"X:", b"\r\n ", b"\r\n"),
+    ("one long name", b"", b"X", b":\r\n"),
+];
+
+fn all_filled(rows: &[Filled], call: impl Fn(Vec<u8>) -> Call) {
+    for (name, start, piece, end) in rows {
+        adversarial(name, |size| call(filled(size, start, piece, end)));
+    }
+}
+
+fn strip_rows(mail: &[u8]) {
+    let own = b"mx.example.com\nexample.com\n";
+    realistic("mail of 30 fields", strip(mail.to_vec(), own));
+    let appendix_b = APPENDIX_B.map(|(body, _)| format!("Authentication-Results:{body}\r\n"));
+    realistic(
+        "Appendix B as a block",
+        strip(appendix_b.concat().into_bytes(), own),
+    );
+    all_filled(FIELDS, |block| strip(block, own));
+    for (name, ids) in [
+        ("512 fields, all kept", ["other.example", "another.example"]),
+        ("512 fields, all removed", ["Example.COM", "example.com"]),
+        (
+            "512 fields, every other removed",
+            ["example.com", "xexample.com"],
+        ),
+    ] {
+        adversarial(name, |size| {
+            let start = |n: usize| format!("Authentication-Results: {};", ids[n % 2]);
+            strip(fields(size, 512, start), own)
+        });
+    }
+    let id = "n".repeat(254);
+    adversarial("near misses in 64 long entries", |size| {
+        let start = |_| format!("Authentication-Results:{id}!;");
+        strip(fields(size, size / 282, start), &near_misses(&id))
+    });
+    adversarial("near misses, quoted", |size| {
+        let quoted: String = id.chars().flat_map(|c| ['\\', c]).collect();
+        let start = |_| format!("Authentication-Results:\"{quoted}!\";");
+        strip(fields(size, size / 540, start), &near_misses(&id))
+    });
+    adversarial("near misses in 64 short entries", |size| {
+        let start = |_| "Authentication-Results: mail.example.co!;".to_string();
+        strip(fields(size, 512, start), &near_misses("mail.example.co"))
+    });
+}
+
+fn report_rows(mail: &[u8]) {
+    let bodies = APPENDIX_B
+        .map(|(body, _)| body.as_bytes().to_vec())
+        .to_vec();
+    realistic("Appendix B, all bodies", Call::Report { bodies });
+    let first = library::fields(mail)
+        .filter_map(Result::ok)
+        .find(|field| field.name == b"Authentication-Results")
+        .expect("the mail has one");
+    realistic("first of the mail", report(first.body.to_vec()));
+    all_filled(BODIES, report);
+}
+
+fn judge_rows(mail: &[u8]) {
+    let (block, verdicts) = (mail.to_vec(), vec![3, 3]);
+    realistic("mail of 30 fields, 2 sets", Call::Judge { block, verdicts });
+    all_filled(SEALS, judge);
+    adversarial("one seal, thousands of tags", |size| {
+        judge(tags(size, letters))
+    });
+    adversarial("one seal, tags, the last one twice", |size| {
+        let mut block = tags(size - 6, letters);
+        block.truncate(block.len() - 2);
+        block.extend(b";aaaa=\r\n");
+        judge(block)
+    });
+    adversarial("one seal, tags with long names", |size| {
+        judge(tags(size, |n| "t".repeat(60) + &letters(n)))
+    });
+    adversarial("512 AAR fields", |size| {
+        let start = |n| format!("ARC-Authentication-Results: i={};", n % 50 + 1);
+        judge(fields(size, 512, start))
+    });
+    adversarial("512 seals", |size| {
+        let start = |n| format!("ARC-Seal: i={};a=;b=;d=;s=;cv=pass;x=", n % 50 + 1);
+        judge(fields(size, 512, start))
+    });
+    adversarial("50 sets", |size| {
+        let start = |n: usize| match (n / 3 + 1, n % 3) {
+            (instance, 0) => format!("ARC-Authentication-Results: i={instance};"),
+            (instance, 1) => format!("ARC-Message-Signature: i={instance};a=;bh=;d=;h=;s=;b="),
+            (1, _) => "ARC-Seal: i=1;a=;d=;s=;cv=none;b=".to_string(),
+            (instance, _) => format!("ARC-Seal: i={instance};a=;d=;s=;cv=pass;b="),
+        };
+        judge(fields(size, 150, start))
+    });
+}
+
+fn field_rows(mail: &[u8]) {
+    let to_the_end = |block: Vec<u8>| Call::NextField {
+        place: block.len(),
+        block,
+    };
+    realistic("mail of 30 fields, to its end", to_the_end(mail.to_vec()));
+    all_filled(WALKED, to_the_end);
+    let many = |size| fields(size, 512, |_| "X:".to_string());
+    adversarial("512 fields, to the end", |size| to_the_end(many(size)));
+    for (on_rest, how) in [(false, "by place"), (true, "on the rest")] {
+        let block = mail.to_vec();
+        realistic(
+            &format!("mail of 30 fields, {how}"),
+            Call::Walk { block, on_rest },
+        );
+        adversarial(&format!("512 fields, {how}"), |size| {
+            let block = many(size);
+            Call::Walk { block, on_rest }
+        });
+    }
+}
+
+fn main() {
+    println!(
+        "{:<11}{:<36}{:>6}{:>8}{:>13}{:>11}{:>9}{:>12}",
+        "call", "input", "answer", "bytes", "ns per call", "/reference", "/memcpy", "32K to 64K"
+    );
+    let mail = mail();
+    assert_eq!(library::fields(&mail).count(), 30);
+    strip_rows(&mail);
+    report_rows(&mail);
+    judge_rows(&mail);
+    field_rows(&mail);
+}
