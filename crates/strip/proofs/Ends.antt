@@ -6,8 +6,10 @@ use mathlib.Core.Bool.{Bool, true, false}
 use mathlib.Core.List.{List, [], _∷_}
 use borrow.Author.Tests.{lt-ltb, ltb-false}
 use lib.Dec.{ltb, leb}
-use lib.ListN.{length}
-use Rattle.sequences.proofs.Splices.{wrote-count, wrote-front}
+use lib.ListN.{length, take}
+use lib.Seq.{sets}
+use Rattle.sequences.specs.Stored.{Put}
+use Rattle.sequences.proofs.Splices.{wrote-count, wrote-front, put-front}
 use Rattle.reading.specs.Walks.{Walked, walk}
 use Rattle.lexis.specs.Limits.{byteLimit}
 use Rattle.block.specs.declared.Checked.the-variants.{Good, Bad}
@@ -54,6 +56,20 @@ fields-place s z =
     let b : fields s ≡ record { items = fields s .items; number = 0; place = 0 } = rw (w .bytes) at (walk-back 0 0 (w .sound) (w .few)) in
     ap (λ (v : Walked Field). v .place) b
 
+-- the kept fields that went to a buffer with room for all of them, copied to another one
+pub copied : (s list old first new : List ℕ) (m : Stripped) → Sifted s list first new m → m .kept ≤ length first → (out : List ℕ) (n : ℕ)
+    → Put old 0 (take (m .kept) new) out n → Sifted s list old out m
+copied s list old first new m k h out n p =
+    let text = bytesOf (stays (ownList list .items) (fields s .items)) in
+    let t : take (m .kept) new ≡ text = put-front {old = first} {text = text} (record { count = wrote-count (k .wrote); bytes = k .wrote .bytes }) h in
+    record {
+      number = k .number;
+      place = k .place;
+      wrote = record { place = k .wrote .place; bytes = p .bytes ∙ ap (sets old 0) t };
+      removed = k .removed;
+      fields = k .fields;
+    }
+
 -- an answer, and what it leaves
 abbrev pub Answered : List ℕ → List ℕ → List ℕ → List ℕ → Stripped → Type 0
 Answered s list old new r = (r ≡ answerOf (strip s list (length old))) × (new ≡ leaves (strip s list (length old)) old)
@@ -76,7 +92,7 @@ module _ (s list old : List ℕ) (r : Stripped) (big : Bool) (b : big ≡ ltb by
         let f = bad-five list p q in
         refused 5 p e (rw (strip, small, unless, f .0, f .1))
 
-    module _ (g : Good ≡ checkedOf (ownList list)) (m : Stripped) (new : List ℕ) (k : Sifted s list [] new m) where
+    module _ (g : Good ≡ checkedOf (ownList list)) (m : Stripped) (first new : List ℕ) (k : Sifted s list first new m) where
       pub answer-2-4 : (m .number ≡ 0 → ⊥) → r ≡ record { number = m .number; place = m .place; kept = 0; removed = 0; fields = 0 } → Answered s list old old r
       unfolding strip
       answer-2-4 ne e = go (m .number) refl

@@ -120,7 +120,8 @@ fn refuse(number: u8, place: usize) -> Stripped
     }
 }
 
-// The first pass runs on no room at all, and so only measures: nothing is written before it is known that all of it fits.
+// The first pass goes to a buffer of its own, as far as that reaches: nothing is written to `out` before it is known that all of it fits. Where
+// it all went there it is copied; else a second pass writes it.
 pub fn strip(s: &[u8], list: &[u8], out: &mut [u8]) -> Stripped
     ensures { λ r. ⌜ r ≡ answerOf (strip (now (s .entry)) (now (list .entry)) (length (now (out .entry)))) ⌝ }
     ensures { λ _. ⌜ now (out .exit) ≡ leaves (strip (now (s .entry)) (now (list .entry)) (length (now (out .entry)))) (now (out .entry)) ⌝ }
@@ -134,13 +135,17 @@ pub fn strip(s: &[u8], list: &[u8], out: &mut [u8]) -> Stripped
         }
         Checked::Good => {}
     }
-    let mut none = [0u8; 1];
-    let sums = sift(s, list, &mut none[..0]);
+    let mut first = [0u8; 8192];
+    let sums = sift(s, list, &mut first);
     if sums.number != 0 {
         return refuse(sums.number, sums.place);
     }
     if sums.kept > out.len() {
         return refuse(6, sums.kept);
     }
-    sift(s, list, out)
+    if sums.kept > first.len() {
+        return sift(s, list, out);
+    }
+    lexis::text::put_text(&first[..sums.kept], out, 0);
+    sums
 }
