@@ -1,14 +1,16 @@
 -- The answers of the report, one law for each way out of the code: a body that is refused leaves the buffer as it is, and one that is
--- told fills it with exactly its text, since the second pass is lent as much room as the first one measured. Assumes nothing.
-use Prim.Native.Nat.{ℕ, _≤_, _<_, zero-le}
+-- told fills its front with exactly its text, copied from the first pass's buffer where it fits that, and else written by a second pass,
+-- which is lent as much room as the first one measured. Assumes nothing.
+use Prim.Native.Nat.{ℕ, _≤_, _<_}
 use native.Mathlib.Omega.{arith}
 use mathlib.Core.Path.{_≡_, refl, sym, ap, _∙_}
 use mathlib.Core.Bool.{Bool, true, false}
-use mathlib.Core.List.{List, [], _++_, append-nil}
+use mathlib.Core.List.{List, _++_}
 use borrow.Author.Tests.{ltb-true, ltb-false, le-leb, lt-leb}
 use lib.Dec.{ltb, leb}
-use lib.ListN.{length, take, drop, drop-of-length-le}
-use lib.Seq.{sets, length-take-le}
+use lib.ListN.{length, take, drop}
+use lib.Seq.{sets, length-take-le, take-all}
+use Rattle.sequences.specs.Stored.{Put}
 use Rattle.sequences.proofs.Splices.{sets-front}
 use Rattle.reading.specs.Parsers.{nothing}
 use Rattle.reading.proofs.Sequencing.{bind-none}
@@ -23,6 +25,7 @@ use Rattle.body.proofs.Readings.{report-is}
 use Rattle.report.specs.declared.Reported.{Reported}
 use Rattle.report.specs.Answers.{answerOf, leaves}
 use Rattle.report.specs.Internal.{wholeText, refused, wholeAnswer, Said}
+use Rattle.report.proofs.Fronts.{fronted-text}
 
 -- ==== what is said, and the answer
 
@@ -65,15 +68,13 @@ reading-not : (s : List ℕ) → identifier s ≡ nothing → reading s ≡ unre
 unfolding reading head
 reading-not s e = let h : head s ≡ nothing = bind-none identifier _ s e in rw (reading, h)
 
--- a text stored in a buffer of exactly its length is what the buffer holds then
-sets-whole : (l vs : List ℕ) → length l ≡ length vs → sets l 0 vs ≡ vs
-sets-whole l vs e =
-    let d : drop (length vs) l ≡ [] = drop-of-length-le l {i = length vs} (omega arith) in
-    sets-front l vs (omega arith) ∙ rw (d, append-nil vs)
+-- the second pass is lent a front of the buffer, and a front of the first one's buffer is copied
+pub front-long : (l : List ℕ) (n : ℕ) → n ≤ length l → n ≡ length (take n l)
+front-long l n h = sym (length-take-le n l h)
 
--- the second pass is lent a front of the buffer
-pub second-long : (old : List ℕ) (n : ℕ) → n ≤ length old → n ≡ length (take n old)
-second-long old n l = sym (length-take-le n old l)
+pub scratch-long : {x : Reading} {own scratch : List ℕ} {m : Reported} → Said x own scratch m → m .written ≤ length own
+    → m .written ≤ length scratch
+scratch-long k l = omega (arith, l, k .bytes .long)
 
 -- ==== one law for each way out
 
@@ -81,16 +82,16 @@ second-long old n l = sym (length-take-le n old l)
 abbrev pub Answered : List ℕ → List ℕ → List ℕ → Reported → Type 0
 Answered s old new r = (r ≡ answerOf (report s (length old))) × (new ≡ leaves (report s (length old)) old)
 
-module _ (s old : List ℕ) (big : Bool) (b : big ≡ ltb byteLimit (length s)) where
-  refuses : (r : Reported) (n p : ℕ) → r ≡ refused n p → report s (length old) ≡ refusal n p → Answered s old old r
-  unfolding refusal
-  refuses r n p e q = (rw q e, rw q)
+refuses : (s old : List ℕ) (r : Reported) (n p : ℕ) → r ≡ refused n p → report s (length old) ≡ refusal n p → Answered s old old r
+unfolding refusal
+refuses s old r n p e q = (rw q e, rw q)
 
+module _ (s old : List ℕ) (big : Bool) (b : big ≡ ltb byteLimit (length s)) where
   pub answer-1 : big ≡ true → (r : Reported) → r ≡ refused 1 0 → Answered s old old r
   unfolding report
   answer-1 t r e =
       let l : leb (length s) byteLimit ≡ false = lt-leb (length s) byteLimit (ltb-true byteLimit (length s) (sym b ∙ t)) in
-      refuses r 1 0 e (rw (report, l))
+      refuses s old r 1 0 e (rw (report, l))
 
   module _ (f : big ≡ false) where
     small : length s ≤ byteLimit
@@ -98,37 +99,48 @@ module _ (s old : List ℕ) (big : Bool) (b : big ≡ ltb byteLimit (length s)) 
 
     pub answer-7 : Unreadable ≡ identifierAt s → (r : Reported) → r ≡ refused 7 0 → Answered s old old r
     unfolding answer
-    answer-7 u r e = refuses r 7 0 e (report-is s (length old) small ∙ ap (answer (length old)) (reading-not s (identifier-not s u)))
+    answer-7 u r e = refuses s old r 7 0 e (report-is s (length old) small ∙ ap (answer (length old)) (reading-not s (identifier-not s u)))
 
-    module _ (a e : ℕ) (q : Bool) (i : Readable a e q ≡ identifierAt s) where
-      -- the first pass is lent no room
-      pub first-room : ((length s ≤ byteLimit) × (Readable a e q ≡ identifierAt s)) × (0 ≤ length (wholeText (reading s)))
-      first-room = ((small, i), zero-le)
+    -- where the identifier is read the rest is
+    pub told-room : (a e : ℕ) (q : Bool) → Readable a e q ≡ identifierAt s → (length s ≤ byteLimit) × (Readable a e q ≡ identifierAt s)
+    told-room a e q i = (small, i)
 
-      -- the second one as much as the first one measured
-      pub second-room : (empty none : List ℕ) (m : Reported) → Said (reading s) empty none m → m .written ≤ length old
-          → ((length s ≤ byteLimit) × (Readable a e q ≡ identifierAt s)) × (length (take (m .written) old) ≤ length (wholeText (reading s)))
-      second-room empty none m k l =
-          ((small, i), omega (arith, length-take-le (m .written) old l, ap (λ (x : Reported). x .written) (k .answer), whole-written (reading s)))
+-- ==== behind an identifier that is read: m is what the first pass answers, which runs on a buffer of its own
 
-    module _ (empty none : List ℕ) (m : Reported) (k : Said (reading s) empty none m) where
-      needed : m .written ≡ length (wholeText (reading s))
-      needed = ap (λ (x : Reported). x .written) (k .answer) ∙ whole-written (reading s)
+module _ (s old : List ℕ) (small : length s ≤ byteLimit) (own scratch : List ℕ) (m : Reported) (k : Said (reading s) own scratch m) where
+  needed : m .written ≡ length (wholeText (reading s))
+  needed = ap (λ (x : Reported). x .written) (k .answer) ∙ whole-written (reading s)
 
-      pub answer-9 : m .number ≡ 9 → Answered s old old m
-      answer-9 z =
-          let w = whole-nine (length old) (reading s) (sym (ap (λ (x : Reported). x .number) (k .answer)) ∙ z) in
-          refuses m 9 0 (k .answer ∙ w .0) (report-is s (length old) small ∙ w .1)
+  pub answer-9 : m .number ≡ 9 → Answered s old old m
+  answer-9 z =
+      let w = whole-nine (length old) (reading s) (sym (ap (λ (x : Reported). x .number) (k .answer)) ∙ z) in
+      refuses s old m 9 0 (k .answer ∙ w .0) (report-is s (length old) small ∙ w .1)
 
-      pub answer-6 : length old < m .written → (r : Reported) → r ≡ refused 6 (m .written) → Answered s old old r
-      answer-6 l r e =
-          refuses r 6 (m .written) e (report-is s (length old) small ∙ (whole-short (length old) (reading s) (rw needed at l) ∙ rw needed))
+  pub answer-6 : length old < m .written → (r : Reported) → r ≡ refused 6 (m .written) → Answered s old old r
+  answer-6 l r e =
+      refuses s old r 6 (m .written) e (report-is s (length old) small ∙ (whole-short (length old) (reading s) (rw needed at l) ∙ rw needed))
 
-      pub answer-0-8 : m .written ≤ length old → (out : List ℕ) (r : Reported) → Said (reading s) (take (m .written) old) out r
-          → Answered s old (out ++ drop (m .written) old) r
-      answer-0-8 l out r d =
-          let w = whole-fits (length old) (reading s) (rw needed at l) in
-          let f = sets-whole (take (m .written) old) (wholeText (reading s)) (length-take-le (m .written) old l ∙ needed) in
-          let t : out ≡ wholeText (reading s) = d .bytes ∙ f in
-          let p = report-is s (length old) small in
-          (rw p (d .answer ∙ w .0), rw (p, ← w .1, t, needed))
+  module _ (l : m .written ≤ length old) where
+    -- all of it is written over the front
+    fills : (r : Reported) → r ≡ wholeAnswer (reading s) → (new : List ℕ) → new ≡ wholeText (reading s) ++ drop (length (wholeText (reading s))) old
+        → Answered s old new r
+    fills r a new b =
+        let w = whole-fits (length old) (reading s) (rw needed at l) in
+        let p = report-is s (length old) small in
+        (rw p (a ∙ w .0), rw (p, ← w .1) b)
+
+    -- it is copied from the first pass's buffer
+    pub answer-copied : m .written ≤ length own → (new : List ℕ) (n : ℕ) → Put old 0 (take (m .written) scratch) new n → Answered s old new m
+    answer-copied f new n c =
+        let t : take (m .written) scratch ≡ wholeText (reading s) = rw needed (fronted-text (k .bytes) (rw needed at f)) in
+        let b : new ≡ sets old 0 (wholeText (reading s)) = c .bytes ∙ rw t in
+        fills m (k .answer) new (b ∙ sets-front old (wholeText (reading s)) (rw needed at l))
+
+    -- it is written by a second pass, which is lent as much as it takes
+    pub answer-written : (out : List ℕ) (r : Reported) → Said (reading s) (take (m .written) old) out r
+        → Answered s old (out ++ drop (m .written) old) r
+    answer-written out r d =
+        let f : length (take (m .written) old) ≡ length (wholeText (reading s)) = length-take-le (m .written) old l ∙ needed in
+        let t : out ≡ wholeText (reading s) =
+        sym (take-all (length (wholeText (reading s))) out (omega (arith, d .bytes .long, f))) ∙ fronted-text (d .bytes) (omega (arith, f)) in
+        fills r (d .answer) (out ++ drop (m .written) old) (rw (t, needed))

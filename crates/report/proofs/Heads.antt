@@ -9,10 +9,10 @@ use mathlib.Core.Option.{Option, none, some}
 use borrow.Author.Tests.{eqb-true, eqb-false}
 use lib.Dec.{eqb}
 use lib.ListN.{length, getD, drop, length-append, length-drop}
-use lib.Seq.{sets, getD-drop, length-take-le}
+use lib.Seq.{getD-drop, length-take-le}
 use Rattle.sequences.specs.Stored.{Wrote}
 use Rattle.sequences.proofs.Booleans.{cond-le}
-use Rattle.sequences.proofs.Splices.{sets-out, wrote-then, wrote-long, wrote-count}
+use Rattle.sequences.proofs.Splices.{wrote-none, wrote-long, wrote-count}
 use Rattle.reading.specs.Texts.{within, same, follows}
 use Rattle.reading.specs.Parsers.{Got, nothing, got, optional}
 use Rattle.reading.specs.Places.{from}
@@ -39,8 +39,9 @@ use Rattle.body.specs.Body.{Head, Reading, malformed, newer, noResult, results,
 use Rattle.body.specs.Report.{line, idLine, versionLine, noneLine, lines}
 use Rattle.body.proofs.Readings.{reading-is, headed-is}
 use Rattle.report.specs.declared.Reported.{Reported}
-use Rattle.report.specs.Internal.{behindId, wholeText, refused, Behind, newerAt, headedAt, Said}
+use Rattle.report.specs.Internal.{refused, Behind, newerAt, headedAt, Said}
 use Rattle.body.proofs.Sizes.{id-size}
+use Rattle.report.proofs.Fronts.{wrote-fronted, fronted-then}
 use Rattle.report.proofs.Payloads.{Room, behind-malformed}
 
 -- ==== header version 1, or none
@@ -56,10 +57,7 @@ headed-shut : (h : Head) (xs : List ℕ) → follows (inClass Delimiter) xs ≡ 
 unfolding headed
 headed-shut h xs f = rw (headed, f)
 
--- the same is said, and there is room for it
-room-as : (s old : List ℕ) (to : ℕ) {x y : Reading} → x ≡ y → Room s x old to → Room s y old to
-room-as s old to e r = subst (λ (z : Reading). Room s z old to) e r
-
+-- the same is said
 behind-as : {x y : Reading} {old new : List ℕ} {to : ℕ} {r : Reported} → x ≡ y → Behind y old to new r → Behind x old to new r
 behind-as {x} {y} {old} {new} {to} {r} e b = subst (λ (z : Reading). Behind z old to new r) (sym e) b
 
@@ -68,14 +66,11 @@ module _ (s : List ℕ) (at : ℕ) (old : List ℕ) (to : ℕ) (d : Bool) (h : d
     first-is : headed First (drop at s) ≡ payload [] (drop at s)
     first-is = headed-is First (drop at s) (sym h ∙ t) (same-refl one)
 
-    pub first-room : Room s (headed First (drop at s)) old to → Room s (payload [] (drop at s)) old to
-    first-room r = room-as s old to first-is r
-
     pub first-payload : (new : List ℕ) (x : Reported) → Behind (payload [] (drop at s)) old to new x → Behind (headed First (drop at s)) old to new x
     first-payload new x b = behind-as first-is b
 
   pub first-shut : d ≡ false → (x : Reported) → x ≡ refused 9 0 → Behind (headed First (drop at s)) old to old x
-  first-shut t x e = behind-malformed (headed-shut First (drop at s) (sym h ∙ t)) e refl
+  first-shut t x e = behind-malformed (headed-shut First (drop at s) (sym h ∙ t)) e (wrote-fronted (wrote-none old to))
 
 -- ==== another header version
 
@@ -87,7 +82,7 @@ unfolding versionLine line
 version-line v = omega (arith, length-append v (10 ∷ []))
 
 module _ (s : List ℕ) (a e : ℕ) (old : List ℕ) (to : ℕ) where
-  pub newer-fits : ((length s ≤ byteLimit) × (to ≤ 2 ^ 32)) × ((a ≤ e) × (e ≤ length s)) → to + length (versionLine (span s a e)) < 2 ^ 64
+  pub newer-fits : Room s to × ((a ≤ e) × (e ≤ length s)) → to + length (versionLine (span s a e)) < 2 ^ 64
   newer-fits r = omega (arith, version-line (span s a e), span-size s a e (r .1 .0) (r .1 .1), r .0, r .1)
 
   module _ (d : Bool) (h : d ≡ follows (inClass Delimiter) (drop e s)) where
@@ -96,11 +91,13 @@ module _ (s : List ℕ) (a e : ℕ) (old : List ℕ) (to : ℕ) where
     unfolding newerAt
     newer-stated t new n w =
         let f : follows (inClass Delimiter) (drop e s) ≡ true = sym h ∙ t in
-        rw (newerAt, f) (record { answer = rw (w .place); bytes = w .bytes })
+        rw (newerAt, f) (record { answer = rw (w .place); bytes = wrote-fronted w })
 
     pub newer-shut : d ≡ false → (x : Reported) → x ≡ refused 9 0 → Behind (newerAt s a e) old to old x
     unfolding newerAt
-    newer-shut t x q = let f : follows (inClass Delimiter) (drop e s) ≡ false = sym h ∙ t in behind-malformed (rw (newerAt, f)) q refl
+    newer-shut t x q =
+        let f : follows (inClass Delimiter) (drop e s) ≡ false = sym h ∙ t in
+        behind-malformed (rw (newerAt, f)) q (wrote-fronted (wrote-none old to))
 
 -- ==== the header version that is stated
 
@@ -182,14 +179,11 @@ module _ (s : List ℕ) (at : ℕ) where
             let i : span s a e ≡ one = same-eq (span s a e) one (one-said ∙ t) in
             stated-is ∙ ap (λ (v : List ℕ). headed (named [] v) (drop e s)) i
 
-        pub one-room : Room s (headedAt s at) old to → Room s (headed First (drop e s)) old to
-        one-room r = room-as s old to one-is-first r
-
         pub one-stated : (new : List ℕ) (x : Reported) → Behind (headed First (drop e s)) old to new x → Behind (headedAt s at) old to new x
         one-stated new x b = behind-as one-is-first b
 
-      pub other-room : Room s (headedAt s at) old to → ((length s ≤ byteLimit) × (to ≤ 2 ^ 32)) × ((a ≤ e) × (e ≤ length s))
-      other-room r = (r .0, counts-inside s a e o (version-inv s at a e o h))
+      pub other-room : Room s to → Room s to × ((a ≤ e) × (e ≤ length s))
+      other-room r = (r, counts-inside s a e o (version-inv s at a e o h))
 
       pub other-stated : o ≡ false → (new : List ℕ) (x : Reported) → Behind (newerAt s a e) old to new x → Behind (headedAt s at) old to new x
       unfolding newerAt headed
@@ -203,9 +197,6 @@ module _ (s : List ℕ) (at : ℕ) where
       absent-is : headedAt s at ≡ headed First (drop at s)
       unfolding orOne
       absent-is = headed-at none at (ap (versionGot s at) h ∙ version-got s at)
-
-      pub absent-room : Room s (headedAt s at) old to → Room s (headed First (drop at s)) old to
-      absent-room r = room-as s old to absent-is r
 
       pub absent-stated : (new : List ℕ) (x : Reported) → Behind (headed First (drop at s)) old to new x → Behind (headedAt s at) old to new x
       absent-stated new x b = behind-as absent-is b
@@ -268,28 +259,19 @@ module _ (s i : List ℕ) (e : ℕ) (h : identifier s ≡ got i e) where
 -- ==== the whole body, behind the line of the identifier
 
 module _ (i : List ℕ) where
-  alike-room : (x y : Reading) → Alike i x y → length (wholeText x) ≤ length (idLine i) + length (behindId y)
-  alike-room x y ill = omega arith
-  alike-room x y (other v) = omega (arith, length-append (idLine i) (versionLine v))
-  alike-room x y word = omega (arith, length-append (idLine i) noneLine)
-  alike-room x y (list rs) = omega (arith, length-append (idLine i) (lines rs))
-
   module _ (old mid : List ℕ) (n : ℕ) (new : List ℕ) (w : Wrote old 0 (idLine i) mid n) where
-    -- a text behind that line
-    after-id : (t : List ℕ) → new ≡ sets mid n t → Wrote old 0 (idLine i ++ t) new (n + length t)
-    after-id t b = wrote-then w (record { place = refl; bytes = b })
+    -- the place after a text behind that line
+    after-id : (t : List ℕ) → n + length t ≡ length (idLine i ++ t)
+    after-id t = omega (arith, length-append (idLine i) t, wrote-count w)
 
-    alike-said : (x y : Reading) (r : Reported) → Alike i x y → length old ≤ length (wholeText x) → Behind y mid n new r → Said x old new r
-    alike-said x y r ill l b = record { answer = b .answer; bytes = b .bytes ∙ (w .bytes ∙ sets-out old 0 (idLine i) l) }
-    alike-said x y r (other v) l b =
-        let a = after-id (versionLine v) (b .bytes) in
-        record { answer = b .answer ∙ rw (wrote-count a); bytes = a .bytes }
-    alike-said x y r word l b =
-        let a = after-id noneLine (b .bytes) in
-        record { answer = b .answer ∙ rw (wrote-count a); bytes = a .bytes }
-    alike-said x y r (list rs) l b =
-        let a = after-id (lines rs) (b .bytes) in
-        record { answer = b .answer ∙ rw (wrote-count a); bytes = a .bytes }
+    alike-said : (x y : Reading) (r : Reported) → Alike i x y → Behind y mid n new r → Said x old new r
+    alike-said x y r ill b = record { answer = b .answer; bytes = record { front = refl; long = b .bytes .long ∙ wrote-long w } }
+    alike-said x y r (other v) b =
+        record { answer = b .answer ∙ rw (after-id (versionLine v)); bytes = fronted-then (idLine i) (versionLine v) w (b .bytes) }
+    alike-said x y r word b =
+        record { answer = b .answer ∙ rw (after-id noneLine); bytes = fronted-then (idLine i) noneLine w (b .bytes) }
+    alike-said x y r (list rs) b =
+        record { answer = b .answer ∙ rw (after-id (lines rs)); bytes = fronted-then (idLine i) (lines rs) w (b .bytes) }
 
 -- the value of an identifier that is found is not empty
 readable-some : (s : List ℕ) (a e : ℕ) (q : Bool) (b f : ℕ) (p : Bool) → Readable b f p ≡ readable s a e q → f ≡ b → ⊥
@@ -320,24 +302,22 @@ identifier-some s a e q h z = go (eqb (getD (drop (space s) s) 0 0) 34) refl
     go false t = readable-some s _ _ _ a e q (rw (identifierFrom, t) at h) z
 
 module _ (s : List ℕ) (a e : ℕ) (q : Bool) (old : List ℕ)
-    (room : ((length s ≤ byteLimit) × (Readable a e q ≡ identifierAt s)) × (length old ≤ length (wholeText (reading s)))) where
+    (room : (length s ≤ byteLimit) × (Readable a e q ≡ identifierAt s)) where
   id-reads : identifier s ≡ got (textOf s a e q) e
-  id-reads = identifier-found s a e q (room .0 .1)
+  id-reads = identifier-found s a e q (room .1)
 
   id-short : length (idLine (textOf s a e q)) ≤ 3 * byteLimit + 4
-  id-short = omega (arith, id-size s (textOf s a e q) e id-reads, identifier-inside s a e q (room .0 .1) .1, room .0 .0)
+  id-short = omega (arith, id-size s (textOf s a e q) e id-reads, identifier-inside s a e q (room .1) .1, room .0)
 
   pub id-room : ((a < e) × (e ≤ length s)) × (length (idLine (textOf s a e q)) < 2 ^ 64)
   id-room =
-      let i = identifier-inside s a e q (room .0 .1) in
-      ((omega (arith, i, identifier-some s a e q (room .0 .1)), i .1), omega (arith, id-short))
+      let i = identifier-inside s a e q (room .1) in
+      ((omega (arith, i, identifier-some s a e q (room .1)), i .1), omega (arith, id-short))
 
   module _ (mid : List ℕ) (n : ℕ) (w : Wrote old 0 (idLine (textOf s a e q)) mid n) where
-    pub body-room : Room s (headedAt s e) mid n
-    body-room =
-        let r = alike-room (textOf s a e q) (reading s) (headedAt s e) (reading-alike s (textOf s a e q) e id-reads) in
-        ((room .0 .0, omega (arith, id-short, wrote-count w)), omega (arith, wrote-long w, wrote-count w, room .1, r))
+    pub body-room : Room s n
+    body-room = (room .0, omega (arith, id-short, wrote-count w))
 
     pub body-said : (new : List ℕ) (r : Reported) → Behind (headedAt s e) mid n new r → Said (reading s) old new r
     body-said new r b =
-        alike-said (textOf s a e q) old mid n new w (reading s) (headedAt s e) r (reading-alike s (textOf s a e q) e id-reads) (room .1) b
+        alike-said (textOf s a e q) old mid n new w (reading s) (headedAt s e) r (reading-alike s (textOf s a e q) e id-reads) b

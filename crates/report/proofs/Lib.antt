@@ -1,6 +1,7 @@
 pub mod Escapes
 pub mod Columns
 pub mod Turns
+pub mod Fronts
 pub mod Passes
 pub mod Payloads
 pub mod Heads

@@ -1,15 +1,12 @@
 -- The loop over results: each is written at the same place as long as those before it are ignored, and what an ignored one leaves is
--- written over or lies past the end, since there is no more room than the whole text takes. Assumes nothing.
-use Prim.Native.Nat.{ℕ, suc, _+_, _*_, _≤_, _<_, _^_}
+-- written over or lies past the end of the whole text, of which nothing is promised. Assumes nothing.
+use Prim.Native.Nat.{ℕ, _+_, _*_, _≤_, _<_, _^_}
 use native.Mathlib.Nat.{zero-add}
 use native.Mathlib.Omega.{arith}
 use mathlib.Core.Path.{_≡_, refl, sym, ap, _∙_, subst}
 use mathlib.Core.Bool.{Bool, true, false}
-use mathlib.Core.List.{List, [], _∷_, _++_}
-use lib.ListN.{length, drop, set, length-set}
-use lib.Seq.{sets, set-set, set-comm, length-sets}
-use Rattle.sequences.specs.Stored.{Wrote}
-use Rattle.sequences.proofs.Splices.{sets-out, Left, left-start, left-step, left-done}
+use mathlib.Core.List.{List, _∷_, _++_}
+use lib.ListN.{length, drop}
 use Rattle.reading.specs.Parsers.{Got, nothing, got}
 use Rattle.reading.specs.Places.{from, listAt, endAt}
 use Rattle.reading.proofs.Places.{took}
@@ -24,34 +21,7 @@ use Rattle.report.specs.declared.results.Turn.{Turn}
 use Rattle.report.specs.declared.results.Turn.the-variants as turn
 use Rattle.report.specs.Internal.{turnLines, TurnRead, TurnPut, ResultsPut}
 use Rattle.body.proofs.Sizes.{resinfo-size}
-
--- ==== text written over text
-
--- a store before others can be made after them
-set-before : (l : List ℕ) (i j v : ℕ) (ys : List ℕ) → i < j → set (sets l j ys) i v ≡ sets (set l i v) j ys
-set-before l i j v [] h = refl
-set-before l i j v (y ∷ ys) h =
-    set-before (set l j y) i (suc j) v ys (omega arith)
-    ∙ ap (λ (m : List ℕ). sets m (suc j) ys) (set-comm l j i y v (λ e. omega arith))
-
--- a text that reaches to the end leaves nothing of what was stored from the same place on
-pub sets-over : (l g vs : List ℕ) (i : ℕ) → length l ≤ i + length vs → sets (sets l i g) i vs ≡ sets l i vs
-sets-over l g [] i h = sets-out l i g (omega arith)
-sets-over l [] (v ∷ vs) i h = refl
-sets-over l (y ∷ ys) (v ∷ vs) i h =
-    ap (λ (m : List ℕ). sets m (suc i) vs) (set-before (set l i y) i (suc i) v ys (omega arith))
-    ∙ (ap (λ (m : List ℕ). sets (sets m (suc i) ys) (suc i) vs) (set-set l i y v)
-    ∙ sets-over (set l i v) ys vs (suc i) (omega (arith, length-set l i v)))
-
--- what is left to write reaches to the end: a text stored there before changes nothing
-pub left-over : {old whole out out′ text g : List ℕ} {from at k : ℕ} → Left old from whole out at text → length out ≤ at + length text
-    → Wrote out at g out′ k → Left old from whole out′ at text
-left-over {out} {text} {g} {at} l h w =
-    record {
-      place = l .place;
-      bytes = rw (w .bytes) (sets-over out g text at h ∙ l .bytes);
-      long = rw (w .bytes, length-sets out at g) (l .long);
-    }
+use Rattle.report.proofs.Fronts.{Fronting, fronting-start, fronting-step, fronting-over, fronting-end, fronting-done}
 
 -- ==== one result more
 
@@ -76,13 +46,13 @@ module _ (r : Result) (rs : List Result) where
 
 -- the loop over the results behind a place stands at i: what is left to read, to write and to count ends as the whole would have
 pub record Passing (s : List ℕ) (at : ℕ) (old : List ℕ) (to : ℕ) (out : List ℕ) (i n ignored : ℕ) : Type 0 where
-  pub left : Left old to (lines (listAt resinfo s at)) out n (lines (listAt resinfo s i))
+  pub left : Fronting old to (lines (listAt resinfo s at)) out n (lines (listAt resinfo s i))
   pub end : endAt resinfo s i ≡ endAt resinfo s at
   pub count : ignored + ignoredOf (listAt resinfo s i) ≡ ignoredOf (listAt resinfo s at)
   pub few : ignored + at ≤ i
 
 pub passing-start : (s : List ℕ) (at : ℕ) (old : List ℕ) (to : ℕ) → Passing s at old to old at to 0
-passing-start s at old to = record { left = left-start _ _ _; end = refl; count = zero-add _; few = omega arith }
+passing-start s at old to = record { left = fronting-start _ _ _; end = refl; count = zero-add _; few = omega arith }
 
 -- the lines of a result, understood or not, are at most three times as long as it
 turn-short : (s : List ℕ) (i : ℕ) → length s ≤ byteLimit → length (turnLines s i) ≤ 3 * byteLimit
@@ -123,19 +93,19 @@ module _ (s : List ℕ) (at : ℕ) (old : List ℕ) (to : ℕ) (out : List ℕ) 
           let k : understood (read .result) ≡ true = sym (read .known) ∙ z in
           let c = rw (more, ignored-not (read .result) rs k) at (w .count) in
           record {
-            left = left-step (w .left) (ap lines more ∙ lines-shown (read .result) rs k) (read .wrote);
+            left = fronting-step (w .left) (ap lines more ∙ lines-shown (read .result) rs k) (read .wrote);
             end = same-end;
             count = c;
             few = omega (arith, passing-further, w .few);
           }
 
       -- it is not: the next lines are written over its own
-      pub passing-ignored : u ≡ false → length old ≤ to + length (lines (listAt resinfo s at)) → Passing s at old to new e n (ignored + 1)
-      passing-ignored z h =
+      pub passing-ignored : u ≡ false → Passing s at old to new e n (ignored + 1)
+      passing-ignored z =
           let rs = listAt resinfo s e in
           let k : understood (read .result) ≡ false = sym (read .known) ∙ z in
           let c = rw (more, ignored-one (read .result) rs k) at (w .count) in
-          let l = left-over (w .left) (omega (arith, h, w .left .place, w .left .long)) (read .wrote) in
+          let l = fronting-over (w .left) (read .wrote) in
           record {
             left = rw (more, lines-ignored (read .result) rs k) at l;
             end = same-end;
@@ -157,7 +127,8 @@ module _ (s : List ℕ) (at : ℕ) (old : List ℕ) (to : ℕ) (out : List ℕ) 
           record {
             end = sym (end-none resinfo s i h) ∙ w .end;
             ignored = omega (arith, c);
-            wrote = rw (none .1) (left-done (w .left) (rw l));
+            next = fronting-end (w .left) (rw l);
+            bytes = rw (none .1) (fronting-done (w .left) (rw l));
           }
 
       pub passed-long : length new ≡ length old

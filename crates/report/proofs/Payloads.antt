@@ -10,7 +10,6 @@ use lib.Dec.{leb}
 use lib.ListN.{length, drop, length-drop}
 use Rattle.sequences.specs.Stored.{Wrote}
 use Rattle.sequences.proofs.Booleans.{no-true}
-use Rattle.sequences.proofs.Splices.{sets-out}
 use Rattle.reading.specs.Texts.{bytes, within, same, starts}
 use Rattle.reading.specs.Parsers.{Got, nothing, got, Parser, _>>_, give, when, end, several}
 use Rattle.reading.specs.Places.{from, listAt, endAt}
@@ -29,13 +28,14 @@ use Rattle.resinfo.specs.Values.{span}
 use Rattle.resinfo.proofs.Marks.{mark-is, mark-reads, keyword-reads, marked-no}
 use Rattle.body.specs.Body.{Reading, malformed, noResult, results, resinfo, resinfos, wordNone, payload}
 use Rattle.body.specs.Report.{line, noneLine, lines}
-use Rattle.body.proofs.Readings.{Payload, neither, word, some, payload-cases, payload-is}
+use Rattle.body.proofs.Readings.{payload-is}
 use Rattle.body.proofs.Sequence.{resinfo-within, Reads, over, more, reads-inv}
 use Rattle.body.proofs.NoResult.{word-no-result}
 use Rattle.report.specs.declared.Reported.{Reported}
 use Rattle.report.specs.declared.results.Results.{Results}
-use Rattle.report.specs.Internal.{succeeds, behindId, refused, Behind, ResultsPut}
+use Rattle.report.specs.Internal.{succeeds, refused, Fronted, Behind, ResultsPut}
 use Rattle.body.proofs.Sizes.{lines-size}
+use Rattle.report.proofs.Fronts.{wrote-fronted, fronted-none}
 
 -- ==== whether a parser succeeds at a place
 
@@ -201,43 +201,36 @@ module _ (xs : List ℕ) where
         go nothing e = payload-open e
         go (got rs n) e = rw (payload, e, h rs n e)
 
--- what a body within the limit is handed, with no more room than what it says takes
-abbrev pub Room : List ℕ → Reading → List ℕ → ℕ → Type 0
-Room s x old to = ((length s ≤ byteLimit) × (to ≤ 2 ^ 32)) × (length old ≤ to + length (behindId x))
+-- a body within the limit, written behind so few bytes that no place overflows
+abbrev pub Room : List ℕ → ℕ → Type 0
+Room s to = (length s ≤ byteLimit) × (to ≤ 2 ^ 32)
 
 pub none-fits : (to : ℕ) → to ≤ 2 ^ 32 → to + length noneLine < 2 ^ 64
 unfolding noneLine line
 none-fits to h = let l : length noneLine ≡ 5 = refl in omega arith
 
--- a body that is not well-formed writes nothing
-pub behind-malformed : {x : Reading} {old new : List ℕ} {to : ℕ} {r : Reported} → x ≡ malformed → r ≡ refused 9 0 → new ≡ old → Behind x old to new r
-behind-malformed m e b = rw m (record { answer = e; bytes = b })
+pub payload-room : (s : List ℕ) (at to : ℕ) → Room s to → (length s ≤ byteLimit) × (to + length (lines (listAt resinfo s at)) < 2 ^ 63)
+payload-room s at to room = (room .0, omega (arith, list-size s at (room .0), room .1))
+
+-- of a body that is not well-formed only what comes before is told
+pub behind-malformed : {x : Reading} {old new text : List ℕ} {to : ℕ} {r : Reported} → x ≡ malformed → r ≡ refused 9 0 → Fronted old to text new
+    → Behind x old to new r
+behind-malformed m e f = rw m (record { answer = e; bytes = fronted-none f })
 
 module _ (s : List ℕ) (at : ℕ) (old : List ℕ) (to : ℕ) (r : Bool) (h : r ≡ succeeds wordNone (drop at s)) where
   pub payload-word : r ≡ true → (new : List ℕ) (n : ℕ) → Wrote old to noneLine new n
       → Behind (payload [] (drop at s)) old to new (record { number = 0; place = 0; written = n; ignored = 0 })
-  payload-word t new n w = rw (payload-none (drop at s) (sym h ∙ t)) (record { answer = rw (w .place); bytes = w .bytes })
+  payload-word t new n w = rw (payload-none (drop at s) (sym h ∙ t)) (record { answer = rw (w .place); bytes = wrote-fronted w })
 
-  module _ (room : Room s (payload [] (drop at s)) old to) (f : r ≡ false) where
+  module _ (f : r ≡ false) where
     no : succeeds wordNone (drop at s) ≡ false
     no = sym h ∙ f
 
-    pub payload-room : ((length s ≤ byteLimit) × (length old ≤ to + length (lines (listAt resinfo s at))))
-        × (to + length (lines (listAt resinfo s at)) < 2 ^ 63)
-    payload-room = ((room .0 .0, fits (payload-cases [] (drop at s))), omega (arith, list-size s at (room .0 .0), room .0 .1))
-      where
-        fits : Payload [] (drop at s) → length old ≤ to + length (lines (listAt resinfo s at))
-        fits (neither e) = omega (arith, rw e at (room .1))
-        fits (word n e p) = absurd (no-true (sym no ∙ (unfold succeeds in rw (succeeds, e))))
-        fits (some rs n e p) = rw (list-same s at rs n e) (rw p at (room .1))
-
     module _ (new : List ℕ) (d : Results) (k : ResultsPut s at old to new d) where
       pub payload-no-results : d .end ≡ at → (x : Reported) → x ≡ refused 9 0 → Behind (payload [] (drop at s)) old to new x
-      unfolding lines
       payload-no-results z x e =
           let l : listAt resinfo s at ≡ [] = list-empty resinfo resinfo-within s at (sym (k .end) ∙ z) in
-          let b : new ≡ old = rw l at (k .wrote .bytes) in
-          behind-malformed (payload-empty (drop at s) no (λ rs n p. sym (list-same s at rs n p) ∙ l)) e b
+          behind-malformed (payload-empty (drop at s) no (λ rs n p. sym (list-same s at rs n p) ∙ l)) e (k .bytes)
 
       module _ (g : ℕ) (q : g ≡ d .end + space (drop (d .end) s)) where
         ends : g ≡ endAt resinfo s at + space (drop (endAt resinfo s at) s)
@@ -245,12 +238,11 @@ module _ (s : List ℕ) (at : ℕ) (old : List ℕ) (to : ℕ) (r : Bool) (h : r
 
         pub payload-not-ended : g < length s → (x : Reported) → x ≡ refused 9 0 → Behind (payload [] (drop at s)) old to new x
         payload-not-ended l x e =
-            let m = payload-open (drop at s) no (list-open s at g ends l) in
-            behind-malformed m e (k .wrote .bytes ∙ sets-out old to (lines (listAt resinfo s at)) (omega (arith, rw m at (room .1))))
+            behind-malformed (payload-open (drop at s) no (list-open s at g ends l)) e (k .bytes)
 
         pub payload-results : (d .end ≡ at → ⊥) → length s ≤ g
             → Behind (payload [] (drop at s)) old to new (record { number = 0; place = 0; written = d .next; ignored = d .ignored })
         payload-results ne l =
             let t = took resinfos s at (listAt resinfo s at) g (list-closed s at g ends l) in
             let p = payload-some (drop at s) (listAt resinfo s at) (t .size) (t .is) (list-some resinfo resinfo-within s at (λ z. ne (k .end ∙ z))) in
-            rw p (record { answer = rw (k .wrote .place, k .ignored); bytes = k .wrote .bytes })
+            rw p (record { answer = rw (k .next, k .ignored); bytes = k .bytes })

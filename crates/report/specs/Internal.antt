@@ -4,7 +4,7 @@ use mathlib.Core.Path.{_≡_}
 use mathlib.Core.Bool.{Bool, true, false}
 use mathlib.Core.List.{List, [], _∷_, _++_}
 use mathlib.Core.Option.{Option, none, some}
-use lib.ListN.{length, drop}
+use lib.ListN.{length, take, drop}
 use lib.Seq.{sets}
 use Rattle.sequences.specs.Stored.{Wrote}
 use Rattle.reading.specs.Texts.{bytes, follows}
@@ -99,10 +99,17 @@ TurnPut s at old to new turn.Missing = (nothing ≡ from resinfo s at) × (new �
 
 -- ==== all results
 
+-- `text` is stored in `old` from `to` on, as far as there is room. Past its end only the length is as before: an ignored result may have
+-- left something there
+pub record Fronted (old : List ℕ) (to : ℕ) (text new : List ℕ) : Type 0 where
+  pub front : take (to + length text) new ≡ take (to + length text) (sets old to text)
+  pub long : length new ≡ length old
+
 pub record ResultsPut (s : List ℕ) (at : ℕ) (old : List ℕ) (to : ℕ) (new : List ℕ) (r : Results) : Type 0 where
   pub end : r .end ≡ endAt resinfo s at
   pub ignored : r .ignored ≡ ignoredOf (listAt resinfo s at)
-  pub wrote : Wrote old to (lines (listAt resinfo s at)) new (r .next)
+  pub next : r .next ≡ to + length (lines (listAt resinfo s at))
+  pub bytes : Fronted old to (lines (listAt resinfo s at)) new
 
 -- ==== the whole body
 
@@ -139,7 +146,7 @@ answerBehind to (results i rs) = record { number = 0; place = 0; written = to + 
 
 pub record Behind (x : Reading) (old : List ℕ) (to : ℕ) (new : List ℕ) (r : Reported) : Type 0 where
   pub answer : r ≡ answerBehind to x
-  pub bytes : new ≡ sets old to (behindId x)
+  pub bytes : Fronted old to (behindId x) new
 
 -- the digits from a up to e are a header version other than 1
 unfoldable pub newerAt : List ℕ → ℕ → ℕ → Reading
@@ -159,4 +166,4 @@ wholeAnswer (results i rs) = record { number = 0; place = 0; written = length (w
 
 pub record Said (x : Reading) (old new : List ℕ) (r : Reported) : Type 0 where
   pub answer : r ≡ wholeAnswer x
-  pub bytes : new ≡ sets old 0 (wholeText x)
+  pub bytes : Fronted old 0 (wholeText x) new

@@ -13,7 +13,7 @@ use authserv::Identifier;
 use authserv::Version;
 ghost use mathlib.Core.Path.{_≡_};
 ghost use mathlib.Core.List.{[]};
-ghost use Prim.Native.Nat.{_+_, _≤_, _^_};
+ghost use Prim.Native.Nat.{_≤_, _^_};
 ghost use lib.ListN.{length, drop};
 ghost use Rattle.lexis.specs.Limits.{byteLimit};
 ghost use Rattle.authserv.specs.Answers.{identifierAt};
@@ -21,7 +21,7 @@ ghost use Rattle.resinfo.specs.Results.{one};
 ghost use Rattle.body.specs.Body.{wordNone, payload, headed, reading};
 ghost use Rattle.body.specs.Report.{report};
 ghost use Rattle.report.specs.Answers.{answerOf, leaves};
-ghost use Rattle.report.specs.Internal.{succeeds, behindId, wholeText, newerAt, headedAt, Behind, Said};
+ghost use Rattle.report.specs.Internal.{succeeds, newerAt, headedAt, Behind, Said};
 
 mod results;
 mod write;
@@ -64,7 +64,7 @@ fn says_none(s: &[u8], at: usize) -> bool
 
 // Results or the word none, behind a head that ends at a place; `to` bytes come before them.
 fn put_payload(s: &[u8], at: usize, out: &mut [u8], to: usize) -> Reported
-    requires { ⌜ ((length (now s) ≤ byteLimit) × (to ≤ 2 ^ 32)) × (length (now out) ≤ to + length (behindId (payload [] (drop at (now s))))) ⌝ }
+    requires { ⌜ (length (now s) ≤ byteLimit) × (to ≤ 2 ^ 32) ⌝ }
     ensures { λ r. ⌜ Behind (payload [] (drop at (now (s .entry)))) (now (out .entry)) to (now (out .exit)) r ⌝ }
 {
     if says_none(s, at) {
@@ -93,7 +93,7 @@ fn put_payload(s: &[u8], at: usize, out: &mut [u8], to: usize) -> Reported
 
 // The same where it has to be asked first what follows the head.
 fn put_first(s: &[u8], at: usize, out: &mut [u8], to: usize) -> Reported
-    requires { ⌜ ((length (now s) ≤ byteLimit) × (to ≤ 2 ^ 32)) × (length (now out) ≤ to + length (behindId (headed (record { identifier = []; version = one }) (drop at (now s))))) ⌝ }
+    requires { ⌜ (length (now s) ≤ byteLimit) × (to ≤ 2 ^ 32) ⌝ }
     ensures { λ r. ⌜ Behind (headed (record { identifier = []; version = one }) (drop at (now (s .entry)))) (now (out .entry)) to (now (out .exit)) r ⌝ }
 {
     if authserv::delimited(s, at) {
@@ -121,7 +121,7 @@ fn put_newer(s: &[u8], a: usize, e: usize, out: &mut [u8], to: usize) -> Reporte
 
 // Header version and what follows it, behind an identifier that ends at a place.
 fn put_headed(s: &[u8], at: usize, out: &mut [u8], to: usize) -> Reported
-    requires { ⌜ ((length (now s) ≤ byteLimit) × (to ≤ 2 ^ 32)) × (length (now out) ≤ to + length (behindId (headedAt (now s) at))) ⌝ }
+    requires { ⌜ (length (now s) ≤ byteLimit) × (to ≤ 2 ^ 32) ⌝ }
     ensures { λ r. ⌜ Behind (headedAt (now (s .entry)) at) (now (out .entry)) to (now (out .exit)) r ⌝ }
 {
     match authserv::version_at(s, at) {
@@ -135,17 +135,38 @@ fn put_headed(s: &[u8], at: usize, out: &mut [u8], to: usize) -> Reported
     }
 }
 
-// All that a body says whose identifier stands from a up to e, written over the front of `out`. There must be no more room than that takes:
-// so on a body that is not well-formed there is none, and nothing is written.
+// All that a body says whose identifier stands from a up to e, written over the front of `out`. What stood past it may be lost, and on a
+// body that is not well-formed all of `out`.
 fn put_body(s: &[u8], a: usize, e: usize, quoted: bool, out: &mut [u8]) -> Reported
-    requires { ⌜ ((length (now s) ≤ byteLimit) × (Identifier.Readable a e quoted ≡ identifierAt (now s))) × (length (now out) ≤ length (wholeText (reading (now s)))) ⌝ }
+    requires { ⌜ (length (now s) ≤ byteLimit) × (Identifier.Readable a e quoted ≡ identifierAt (now s)) ⌝ }
     ensures { λ r. ⌜ Said (reading (now (s .entry))) (now (out .entry)) (now (out .exit)) r ⌝ }
 {
     let n = write::put_id(s, a, e, quoted, out);
     put_headed(s, e, out, n)
 }
 
-// The first pass runs on no room at all, and so only measures: nothing is written before it is known that all of it fits.
+// The same, with the answer: `out` is written only where all of it fits. The first pass runs on a buffer of its own, and so measures. What
+// fits that too is copied from it; else a second pass runs on as much of `out` as was measured.
+fn put_measured(s: &[u8], a: usize, e: usize, quoted: bool, out: &mut [u8]) -> Reported
+    requires { ⌜ (length (now s) ≤ byteLimit) × (Identifier.Readable a e quoted ≡ identifierAt (now s)) ⌝ }
+    ensures { λ r. ⌜ r ≡ answerOf (report (now (s .entry)) (length (now (out .entry)))) ⌝ }
+    ensures { λ _. ⌜ now (out .exit) ≡ leaves (report (now (s .entry)) (length (now (out .entry)))) (now (out .entry)) ⌝ }
+{
+    let mut scratch = [0u8; 1024];
+    let first = put_body(s, a, e, quoted, &mut scratch);
+    if first.number == 9 {
+        return first;
+    }
+    if first.written > out.len() {
+        return refuse(6, first.written);
+    }
+    if first.written > scratch.len() {
+        return put_body(s, a, e, quoted, &mut out[..first.written]);
+    }
+    lexis::text::put_text(&scratch[..first.written], out, 0);
+    first
+}
+
 pub fn report(body: &[u8], out: &mut [u8]) -> Reported
     ensures { λ r. ⌜ r ≡ answerOf (report (now (body .entry)) (length (now (out .entry)))) ⌝ }
     ensures { λ _. ⌜ now (out .exit) ≡ leaves (report (now (body .entry)) (length (now (out .entry)))) (now (out .entry)) ⌝ }
@@ -156,13 +177,5 @@ pub fn report(body: &[u8], out: &mut [u8]) -> Reported
     let Identifier::Readable { start, end, quoted } = authserv::identify(body) else {
         return refuse(7, 0);
     };
-    let mut none = [0u8; 1];
-    let first = put_body(body, start, end, quoted, &mut none[..0]);
-    if first.number == 9 {
-        return first;
-    }
-    if first.written > out.len() {
-        return refuse(6, first.written);
-    }
-    put_body(body, start, end, quoted, &mut out[..first.written])
+    put_measured(body, start, end, quoted, out)
 }

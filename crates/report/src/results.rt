@@ -1,7 +1,7 @@
 // The results of a body, one after the other: each is read and its lines are written in one go, and where it then turns out that it is
 // ignored, the next ones are written over them.
 //
-// So a caller must lend no more room than the whole report takes: then nothing of an ignored result is left.
+// So where there is more room than the lines that stay take, something of an ignored result may be left past their end.
 use super::write;
 use resinfo::Step;
 use resinfo::parts::Method;
@@ -9,7 +9,7 @@ use resinfo::parts::Reason;
 ghost use mathlib.Core.Path.{_≡_};
 ghost use mathlib.Core.Bool.{_&&_};
 ghost use mathlib.Core.List.{map};
-ghost use Prim.Native.Nat.{_+_, _*_, _≤_, _<_, _^_};
+ghost use Prim.Native.Nat.{_+_, _≤_, _<_, _^_};
 ghost use lib.ListN.{length};
 ghost use Rattle.reading.specs.Places.{listAt};
 ghost use Rattle.lexis.specs.Limits.{byteLimit};
@@ -183,7 +183,7 @@ pub(crate) struct Results {
 }
 
 pub(crate) fn put_results(s: &[u8], at: usize, out: &mut [u8], to: usize) -> Results
-    requires { ⌜ ((length (now s) ≤ byteLimit) × (length (now out) ≤ to + length (lines (listAt resinfo (now s) at)))) × (to + length (lines (listAt resinfo (now s) at)) < 2 ^ 63) ⌝ }
+    requires { ⌜ (length (now s) ≤ byteLimit) × (to + length (lines (listAt resinfo (now s) at)) < 2 ^ 63) ⌝ }
     ensures { λ r. ⌜ ResultsPut (now (s .entry)) at (now (out .entry)) to (now (out .exit)) r ⌝ }
 {
     let mut i = at;

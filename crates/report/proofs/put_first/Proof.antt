@@ -1,5 +1,5 @@
 -- `report::put_first` meets its contract: what has to follow the head follows it, or the body is not well-formed. Assumes nothing.
-use Rattle.report.proofs.Heads.{first-room, first-payload, first-shut}
+use Rattle.report.proofs.Heads.{first-payload, first-shut}
 use borrow.Author.Needs.{needs}
 use Rattle.report.proofs.put_first.Statement.{statement}
 use Rattle.report.proofs.put_first.Tie as tie
@@ -8,10 +8,7 @@ delimited-requires : tie.Need-delimited-requires
 delimited-requires c κs = search needs
 
 put-payload-requires : tie.Need-put-payload-requires
-put-payload-requires c κs =
-    first-room (c .before .before .before .before .before .args .s .now) (c .before .before .before .before .before .args .at)
-    (c .before .before .before .before .before .args .out .now) _ _ (c .before .before .delimited .ensures) (c .before .if1 .taken)
-    (c .before .before .before .before .before .pre)
+put-payload-requires c κs = search needs
 
 same-length : tie.Need-same-length
 same-length c = search needs

@@ -2,7 +2,7 @@
 use mathlib.Core.Path.{_≡_, sym, _∙_}
 use Rattle.authserv.specs.declared.Version.the-variants.{Absent, Stated}
 use Rattle.authserv.specs.Answers.{versionAt}
-use Rattle.report.proofs.Heads.{one-room, one-stated, other-room, other-stated, absent-room, absent-stated}
+use Rattle.report.proofs.Heads.{one-stated, other-room, other-stated, absent-stated}
 use borrow.Author.Needs.{needs}
 use Rattle.report.proofs.put_headed.Statement.{statement}
 use Rattle.report.proofs.put_headed.Tie as tie
@@ -25,9 +25,7 @@ enum-known-start : tie.Need-enum-known-start
 enum-known-start c = search needs
 
 put-first-requires : tie.Need-put-first-requires
-put-first-requires c κs =
-    one-room _ _ (c .before .before .before .before .before .before .before .before .args .out .now) _ _ _ _ (found (c .before .before))
-    (c .before .if1 .taken) (c .before .before .before .before .before .before .before .before .pre)
+put-first-requires c κs = search needs
 
 same-length : tie.Need-same-length
 same-length c = search needs
@@ -46,9 +44,7 @@ enum-told : tie.Need-enum-told
 enum-told c = search needs
 
 put-first-requires-2 : tie.Need-put-first-requires-2
-put-first-requires-2 c κs =
-    absent-room _ _ (c .before .before .before .before .before .before .args .out .now) _ (none (c .before))
-    (c .before .before .before .before .before .before .pre)
+put-first-requires-2 c κs = search needs
 
 same-length-2 : tie.Need-same-length-2
 same-length-2 c = search needs

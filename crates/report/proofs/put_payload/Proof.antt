@@ -18,9 +18,7 @@ returns : tie.Need-returns
 returns c = search payload-word
 
 put-results-requires : tie.Need-put-results-requires
-put-results-requires c κs =
-    payload-room _ _ (c .before .before .before .before .before .args .out .now) _ _ (c .before .before .says-none .ensures)
-    (c .before .before .before .before .before .pre) (c .before .if1 .left)
+put-results-requires c κs = payload-room _ _ _ (c .before .before .before .before .before .pre)
 
 refuse-requires : tie.Need-refuse-requires
 refuse-requires c κs = search needs

@@ -22,7 +22,7 @@ loop-holds : tie.Need-loop-holds Inv-loop μ-loop
 loop-holds c = passing-start _ _ _ _
 
 put-result-requires : tie.Need-put-result-requires Inv-loop μ-loop
-put-result-requires c κs = passing-room _ _ _ _ _ _ _ _ (c .before .loop .inv) (c .before .before .before .before .pre .0 .0) (c .before .before .before .before .pre .1)
+put-result-requires c κs = passing-room _ _ _ _ _ _ _ _ (c .before .loop .inv) (c .before .before .before .before .pre .0) (c .before .before .before .before .pre .1)
 
 enum-known-end : tie.Need-enum-known-end Inv-loop μ-loop
 enum-known-end c = search needs
@@ -34,13 +34,13 @@ loop-again : tie.Need-loop-again Inv-loop μ-loop
 loop-again c = passing-shown _ _ _ _ _ _ _ _ (c .before .before .before .before .before .before .before .before .loop .inv) _ _ (c .before .before .before .before .before .before .put-result .ensures) _ _ _ (c .before .before .end .given .1) (c .if1 .taken)
 
 add-ignored : tie.Need-add-ignored Inv-loop μ-loop
-add-ignored c = omega (arith, near (c .before), c .before .before .before .before .before .before .before .before .loop .inv .few, c .before .before .before .before .before .before .before .before .before .before .before .pre .0 .0)
+add-ignored c = omega (arith, near (c .before), c .before .before .before .before .before .before .before .before .loop .inv .few, c .before .before .before .before .before .before .before .before .before .before .before .pre .0)
 
 loop-less-2 : tie.Need-loop-less-2 Inv-loop μ-loop
 loop-less-2 c = omega (arith, near (c .before))
 
 loop-again-2 : tie.Need-loop-again-2 Inv-loop μ-loop
-loop-again-2 c = passing-ignored _ _ _ _ _ _ _ _ (c .before .before .before .before .before .before .before .before .loop .inv) _ _ (c .before .before .before .before .before .before .put-result .ensures) _ _ _ (c .before .before .end .given .1) (c .if1 .left) (c .before .before .before .before .before .before .before .before .before .before .before .pre .0 .1)
+loop-again-2 c = passing-ignored _ _ _ _ _ _ _ _ (c .before .before .before .before .before .before .before .before .loop .inv) _ _ (c .before .before .before .before .before .before .put-result .ensures) _ _ _ (c .before .before .end .given .1) (c .if1 .left)
 
 enum-told : tie.Need-enum-told Inv-loop μ-loop
 enum-told c = search needs
