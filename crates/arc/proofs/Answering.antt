@@ -1,20 +1,17 @@
 -- The answer on a block by its cases, in the order of the answers: too many bytes, a refusal of the walk, and the outcome of its fields
--- with the verdicts. Then what a block without ARC fields gathers, by induction on the fields, and that no refusal of a walk is 10, by
--- induction on the block. Assumes nothing.
-use Prim.Native.Nat.{ℕ, zero, suc, _-_, _≤_, zero-le}
+-- with the verdicts. Then what a block without ARC fields gathers, by induction on the fields, and when the answer is 10. Assumes
+-- nothing.
+use Prim.Native.Nat.{ℕ, zero, suc, _≤_}
 use native.Mathlib.Omega.{arith}
 use mathlib.Core.Path.{_≡_, refl, sym, ap, _∙_}
 use mathlib.Core.Bool.{Bool, true, false}
 use mathlib.Core.List.{List, [], _∷_, List·Memᴰ, List·Memᴰ·head, List·Memᴰ·tail}
-use lib.Dec.{leb, ltb}
-use lib.ListN.{length, getD}
+use lib.Dec.{ltb}
+use lib.ListN.{length}
 use borrow.Author.Tests.{ltb-false, le-ltb}
-use Rattle.reading.specs.Walks.{Met, item, refused, walk}
-use Rattle.lexis.specs.declared.Class.the-variants.{Blank}
-use Rattle.lexis.specs.Bytes.{inClass}
 use Rattle.lexis.specs.Limits.{byteLimit}
-use Rattle.block.specs.Fields.{Field, bodyOf, line, label, extent, fieldLimit, fieldAt, fields}
-use Rattle.block.proofs.Lines.{field-2, field-3, field-4, field-is, closed-2, closed-is}
+use Rattle.block.specs.Fields.{Field, bodyOf, fields}
+use Rattle.block.proofs.Fields.{fields-four}
 use Rattle.arc.specs.Chain.{Sets, noSets, gathered, Outcome, none, failed, built, outcomeOf, outcome, validFor, passes, Answer, blank, judged, judge}
 use Rattle.arc.specs.Accepted.{kindOf, isArc}
 use Rattle.arc.proofs.Gathering.{noted-other}
@@ -95,42 +92,6 @@ judge-unread block vs ws a b = big (ltb byteLimit (length block)) refl
 
 -- ==== 10
 
--- a refusal's number is 4 at most
-abbrev Low : Met Field → Type 0
-Low (item f n) = Unit
-Low (refused n p) = n ≤ 4
-
-low : (at count : ℕ) (xs : List ℕ) → Low (fieldAt at count xs)
-low at count xs = lines (line xs) refl
-  where
-    ends : (l b : ℕ) → line xs ≡ suc l → label xs ≡ suc b → leb fieldLimit count ≡ false → (t : Bool) → inClass Blank (getD xs (extent xs) 0) ≡ t → Low (fieldAt at count xs)
-    ends l b p q g true y = rw (field-is at count xs l p b q g, closed-2 at xs (extent xs) y) (omega arith)
-    ends l b p q g false y = rw (field-is at count xs l p b q g, closed-is at xs (extent xs) y) tt
-
-    counts : (l b : ℕ) → line xs ≡ suc l → label xs ≡ suc b → (t : Bool) → leb fieldLimit count ≡ t → Low (fieldAt at count xs)
-    counts l b p q true g = rw (field-4 at count xs l p b q g) (omega arith)
-    counts l b p q false g = ends l b p q g (inClass Blank (getD xs (extent xs) 0)) refl
-
-    labels : (l b : ℕ) → line xs ≡ suc l → label xs ≡ b → Low (fieldAt at count xs)
-    labels l zero p q = rw (field-3 at count xs l p q) (omega arith)
-    labels l (suc b) p q = counts l b p q (leb fieldLimit count) refl
-
-    lines : (l : ℕ) → line xs ≡ l → Low (fieldAt at count xs)
-    lines zero p = rw (field-2 at count xs p) (omega arith)
-    lines (suc l) p = labels l (label xs) p refl
-
-walk-low : (at count k : ℕ) (xs : List ℕ) → walk fieldAt at count k xs .number ≤ 4
-unfolding walk
-walk-low at count zero [] = zero-le
-walk-low at count (suc k) [] = zero-le
-walk-low at count (suc k) (x ∷ xs) = walk-low (suc at) count k xs
-walk-low at count zero (x ∷ xs) = go (λ k. walk-low (suc at) (suc count) k xs) (fieldAt at count (x ∷ xs)) refl
-  where
-    go : ((k : ℕ) → walk fieldAt (suc at) (suc count) k xs .number ≤ 4) → (m : Met Field) → fieldAt at count (x ∷ xs) ≡ m
-        → walk fieldAt at count zero (x ∷ xs) .number ≤ 4
-    go ih (item f n) e = rw (walk, e) (ih (n - 1))
-    go ih (refused n p) e = rw (walk, e) (rw e at (low at count (x ∷ xs)))
-
 module _ (block vs : List ℕ) where
   -- the block is within the limit and walked to its end, and its chain is built, with verdicts that aren't valid
   abbrev Bad : ℕ → Type 0
@@ -152,7 +113,7 @@ module _ (block vs : List ℕ) where
       chain s q y (built n) c = verdicts s q n c (rw c at y) (validFor n vs) refl
 
       cut : ltb byteLimit (length block) ≡ false → (n : ℕ) → fields block .number ≡ n → (n : ℕ) × Bad n
-      cut e (suc n) q = absurd (let i : suc n ≡ 10 = rw (judge-refused block vs n e q) at z in omega (arith, i, q, walk-low 0 0 0 block))
+      cut e (suc n) q = absurd (let i : suc n ≡ 10 = rw (judge-refused block vs n e q) at z in omega (arith, i, q, fields-four block))
       cut e zero q = chain (ltb-false byteLimit (length block) e) q (rw (judge-is block vs e q) at z) (outcome (fields block .items)) refl
 
       big : (t : Bool) → ltb byteLimit (length block) ≡ t → (n : ℕ) × Bad n

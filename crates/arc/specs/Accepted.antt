@@ -43,7 +43,7 @@ standsAt k i f = sameKind k (kindOf f) && (elim (saidBy f) [ nothing ↦ false |
 abbrev pub fieldsAt : Kind → ℕ → List Field → ℕ
 fieldsAt k i fs = length (those (standsAt k i) fs)
 
--- none at instance 1 and pass after it (RFC 8617, 5.1.1)
+-- none at instance 1 and pass after it (RFC 8617, 5.2)
 abbrev pub cvPrescribed : ℕ → ℕ
 cvPrescribed i = cond (eqb i 1) 1 2
 

@@ -206,13 +206,6 @@ fn slot_of(s: &[u8], table: &[u16], count: usize, name: &[u8]) -> Slot
     seen::find(s, table, count, name)
 }
 
-fn narrow(x: usize) -> u16
-    requires { ⌜ x < 65536 ⌝ }
-    ensures { λ r. ⌜ r ≡ x ⌝ }
-{
-    x as u16
-}
-
 // A tag list whose names are in a table; or one that is not well-formed, has a name twice or has a second i; or one of more tags than the
 // table has room for.
 enum Collected {
@@ -255,7 +248,7 @@ fn collect(s: &[u8], at: usize, table: &mut [u16]) -> Collected
                     if count >= table.len() {
                         return Collected::Full;
                     }
-                    seen::insert(table, count, slot, narrow(start));
+                    seen::insert(table, count, slot, super::narrow(start));
                     cv = cv_after(cv, &s[start..name_end], &s[value_start..value_end]);
                     count += 1;
                     i = end;

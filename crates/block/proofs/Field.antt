@@ -26,7 +26,7 @@ use Rattle.block.specs.Fields.{inLine, lineText, line, name, label, fold
 use Rattle.block.specs.Sound.{Sound}
 use Rattle.block.proofs.Lines.{line-fits, folded-fits, label-zero, label-suc, field-2, field-3, field-4, field-is, closed-2, closed-is}
 
--- ==== what stands at the front: what a field that was read has shown, and that a refusal's number is 2 at least
+-- ==== what stands at the front: what a field that was read has shown, and that a refusal's number is one of 2 to 4
 
 pub record Whole (count : ℕ) (xs : List ℕ) (f : Field) (n : ℕ) : Type 0 where
   pub lined : line xs ≡ 0 → ⊥
@@ -38,27 +38,27 @@ pub record Whole (count : ℕ) (xs : List ℕ) (f : Field) (n : ℕ) : Type 0 wh
 
 abbrev Shown : ℕ → List ℕ → Met Field → Type 0
 Shown count xs (item f n) = Whole count xs f n
-Shown count xs (refused n p) = 2 ≤ n
+Shown count xs (refused n p) = (2 ≤ n) × (n ≤ 4)
 
 pub shown : (at count : ℕ) (xs : List ℕ) → Shown count xs (fieldAt at count xs)
 shown at count xs = lines (line xs) refl
   where
     ends : (l b : ℕ) → line xs ≡ suc l → label xs ≡ suc b → leb fieldLimit count ≡ false → (t : Bool) → inClass Blank (getD xs (extent xs) 0) ≡ t → Shown count xs (fieldAt at count xs)
-    ends l b p q g true y = rw (field-is at count xs l p b q g, closed-2 at xs (extent xs) y) (omega arith)
+    ends l b p q g true y = rw (field-is at count xs l p b q g, closed-2 at xs (extent xs) y) (omega arith, omega arith)
     ends l b p q g false y =
         rw (field-is at count xs l p b q g, closed-is at xs (extent xs) y)
         (record { lined = λ z. omega arith; labelled = λ z. omega arith; below = leb-false fieldLimit count g; size = refl; shut = y; is = refl })
 
     counts : (l b : ℕ) → line xs ≡ suc l → label xs ≡ suc b → (t : Bool) → leb fieldLimit count ≡ t → Shown count xs (fieldAt at count xs)
-    counts l b p q true g = rw (field-4 at count xs l p b q g) (omega arith)
+    counts l b p q true g = rw (field-4 at count xs l p b q g) (omega arith, omega arith)
     counts l b p q false g = ends l b p q g (inClass Blank (getD xs (extent xs) 0)) refl
 
     labels : (l b : ℕ) → line xs ≡ suc l → label xs ≡ b → Shown count xs (fieldAt at count xs)
-    labels l zero p q = rw (field-3 at count xs l p q) (omega arith)
+    labels l zero p q = rw (field-3 at count xs l p q) (omega arith, omega arith)
     labels l (suc b) p q = counts l b p q (leb fieldLimit count) refl
 
     lines : (l : ℕ) → line xs ≡ l → Shown count xs (fieldAt at count xs)
-    lines zero p = rw (field-2 at count xs p) (omega arith)
+    lines zero p = rw (field-2 at count xs p) (omega arith, omega arith)
     lines (suc l) p = labels l (label xs) p refl
 
 pub whole : (at count : ℕ) (xs : List ℕ) (f : Field) (n : ℕ) → fieldAt at count xs ≡ item f n → Whole count xs f n

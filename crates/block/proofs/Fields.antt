@@ -17,9 +17,25 @@ use Rattle.block.specs.Fields.{Field, fieldLimit, fieldAt, fields, bytes
 use Rattle.block.specs.Sound.{Sound, AllSound, none, more}
 use Rattle.block.proofs.Field.{shown, field-size, field-bytes, field-below, field-sound}
 
--- a refusal's number is 2 at least
-pub refusal : (at count : ℕ) (xs : List ℕ) (n p : ℕ) → fieldAt at count xs ≡ refused n p → 2 ≤ n
+-- a refusal's number is one of 2 to 4
+pub refusal : (at count : ℕ) (xs : List ℕ) (n p : ℕ) → fieldAt at count xs ≡ refused n p → (2 ≤ n) × (n ≤ 4)
 refusal at count xs n p e = rw e at (shown at count xs)
+
+-- so a walk's answer is 4 at most
+walk-four : (at count k : ℕ) (xs : List ℕ) → walk fieldAt at count k xs .number ≤ 4
+unfolding walk
+walk-four at count zero [] = zero-le
+walk-four at count (suc k) [] = zero-le
+walk-four at count (suc k) (x ∷ xs) = walk-four (suc at) count k xs
+walk-four at count zero (x ∷ xs) = go (λ k. walk-four (suc at) (suc count) k xs) (fieldAt at count (x ∷ xs)) refl
+  where
+    go : ((k : ℕ) → walk fieldAt (suc at) (suc count) k xs .number ≤ 4) → (m : Met Field) → fieldAt at count (x ∷ xs) ≡ m
+        → walk fieldAt at count zero (x ∷ xs) .number ≤ 4
+    go ih (refused n p) e = rw (walk, e) (refusal at count (x ∷ xs) n p e .1)
+    go ih (item f n) e = rw (walk, e) (ih (n - 1))
+
+pub fields-four : (block : List ℕ) → fields block .number ≤ 4
+fields-four block = walk-four 0 0 0 block
 
 -- ==== a block is its fields
 
@@ -43,7 +59,7 @@ walk-fine at count zero (x ∷ xs) h c z = go (λ k. walk-fine (suc at) (suc cou
   where
     go : ((k : ℕ) → k ≤ length xs → suc count ≤ fieldLimit → walk fieldAt (suc at) (suc count) k xs .number ≡ 0 → Fine (suc count) (walk fieldAt (suc at) (suc count) k xs .items) (drop k xs))
         → (m : Met Field) → fieldAt at count (x ∷ xs) ≡ m → Fine count (walk fieldAt at count zero (x ∷ xs) .items) (x ∷ xs)
-    go ih (refused n p) e = absurd (let o : n ≡ 0 = rw (walk, e) at z in omega (arith, refusal at count (x ∷ xs) n p e))
+    go ih (refused n p) e = absurd (let o : n ≡ 0 = rw (walk, e) at z in omega (arith, refusal at count (x ∷ xs) n p e .0))
     go ih (item f zero) e = absurd (let o : 0 < 0 = field-size at count (x ∷ xs) f 0 e .0 in omega arith)
     go ih (item f (suc n)) e =
         let s = field-size at count (x ∷ xs) f (suc n) e in

@@ -6,15 +6,13 @@ use native.Mathlib.Omega.{arith}
 use mathlib.Core.Path.{_≡_, refl, sym, ap, _∙_}
 use mathlib.Core.Bool.{Bool, true, false}
 use mathlib.Core.List.{List, [], _∷_, _++_, append-assoc}
-use lib.Dec.{ltb, leb}
-use lib.ListN.{length, getD, drop, take, length-append, take-append-drop}
+use lib.Dec.{ltb}
+use lib.ListN.{length, drop, take, length-append, take-append-drop}
 use Rattle.reading.specs.Walks.{Met, item, refused, walk}
 use Rattle.lexis.specs.Limits.{byteLimit}
-use Rattle.lexis.specs.declared.Class.the-variants.{Blank}
-use Rattle.lexis.specs.Bytes.{inClass}
-use Rattle.block.specs.Fields.{line, label, extent, Field, fieldLimit, fieldAt, bytesOf}
+use Rattle.block.specs.Fields.{Field, fieldLimit, fieldAt, bytesOf}
 use Rattle.block.specs.Sound.{Sound, AllSound, none, more}
-use Rattle.block.proofs.Lines.{field-2, field-3, field-4, field-is, closed-2, closed-is}
+use Rattle.block.proofs.Fields.{fields-four}
 use Rattle.block.proofs.Field.{field-size, field-bytes, field-below, field-sound}
 use Rattle.fields.specs.Steps.{given}
 use Rattle.fields.specs.Whole.{AllBefore}
@@ -70,48 +68,12 @@ given-stand block = go (ltb byteLimit (length block)) refl
 
 -- ==== the last answer
 
--- a refusal's number is 4 at most
-abbrev Most : Met Field → Type 0
-Most (item f n) = Unit {0}
-Most (refused n p) = n ≤ 4
-
-met-four : (at count : ℕ) (xs : List ℕ) → Most (fieldAt at count xs)
-met-four at count xs = lines (line xs) refl
-  where
-    ends : (l b : ℕ) → line xs ≡ suc l → label xs ≡ suc b → leb fieldLimit count ≡ false → (t : Bool) → inClass Blank (getD xs (extent xs) 0) ≡ t → Most (fieldAt at count xs)
-    ends l b p q g true y = rw (field-is at count xs l p b q g, closed-2 at xs (extent xs) y) (omega arith)
-    ends l b p q g false y = rw (field-is at count xs l p b q g, closed-is at xs (extent xs) y) tt
-
-    counts : (l b : ℕ) → line xs ≡ suc l → label xs ≡ suc b → (t : Bool) → leb fieldLimit count ≡ t → Most (fieldAt at count xs)
-    counts l b p q true g = rw (field-4 at count xs l p b q g) (omega arith)
-    counts l b p q false g = ends l b p q g (inClass Blank (getD xs (extent xs) 0)) refl
-
-    labels : (l b : ℕ) → line xs ≡ suc l → label xs ≡ b → Most (fieldAt at count xs)
-    labels l zero p q = rw (field-3 at count xs l p q) (omega arith)
-    labels l (suc b) p q = counts l b p q (leb fieldLimit count) refl
-
-    lines : (l : ℕ) → line xs ≡ l → Most (fieldAt at count xs)
-    lines zero p = rw (field-2 at count xs p) (omega arith)
-    lines (suc l) p = labels l (label xs) p refl
-
-walk-four : (at count k : ℕ) (xs : List ℕ) → walk fieldAt at count k xs .number ≤ 4
-unfolding walk
-walk-four at count zero [] = zero-le
-walk-four at count (suc k) [] = zero-le
-walk-four at count (suc k) (x ∷ xs) = walk-four (suc at) count k xs
-walk-four at count zero (x ∷ xs) = go (λ k. walk-four (suc at) (suc count) k xs) (fieldAt at count (x ∷ xs)) refl
-  where
-    go : ((k : ℕ) → walk fieldAt (suc at) (suc count) k xs .number ≤ 4) → (m : Met Field) → fieldAt at count (x ∷ xs) ≡ m
-        → walk fieldAt at count zero (x ∷ xs) .number ≤ 4
-    go ih (refused n p) e = let h : n ≤ 4 = rw e at (met-four at count (x ∷ xs)) in rw (walk, e) h
-    go ih (item f n) e = rw (walk, e) (ih (n - 1))
-
 pub given-four : (block : List ℕ) → given block .number ≤ 4
 given-four block = go (ltb byteLimit (length block)) refl
   where
     go : (t : Bool) → ltb byteLimit (length block) ≡ t → given block .number ≤ 4
     go true e = rw (given-long block e) (omega arith)
-    go false e = rw (given-fields block e) (walk-four 0 0 0 block)
+    go false e = rw (given-fields block e) (fields-four block)
 
 -- ==== fields one after the other
 
