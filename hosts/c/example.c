@@ -13,14 +13,12 @@
 #include <string.h>
 #include <strings.h>
 
-enum { BLOCK = 65536, LIST = 64 * 256, INSTANCES = 50 };
-
 /* One byte more than a block may have, so that a longer file is refused and not cut. */
-static uint8_t block[BLOCK + 1];
-static uint8_t kept[BLOCK];
-static uint8_t report[3 * BLOCK + 8];
-static uint8_t list[LIST];
-static uint8_t verdicts[INSTANCES];
+static uint8_t block[ORBENDASH_BYTES + 1];
+static uint8_t kept[ORBENDASH_BYTES];
+static uint8_t report[ORBENDASH_REPORT_ROOM(ORBENDASH_BYTES)];
+static uint8_t list[ORBENDASH_LIST_BYTES];
+static uint8_t verdicts[ORBENDASH_INSTANCES];
 
 static int refused(const char *call, unsigned number, size_t place) {
     fprintf(stderr, "%s: answer %u at %zu\n", call, number, place);
@@ -44,13 +42,17 @@ int main(int count, char **words) {
         return 66;
     }
     size_t length = fread(block, 1, sizeof block, file);
+    if (ferror(file)) { /* a block that was cut short must not look like a whole one */
+        perror(words[1]);
+        return 74;
+    }
     fclose(file);
 
     /* Each entry of the list is ended by LF. */
     size_t list_length = 0;
     for (int word = 2; word < count; word++) {
         size_t entry = strlen(words[word]);
-        if (entry >= LIST - list_length) {
+        if (entry >= sizeof list - list_length) {
             fprintf(stderr, "too many identifiers\n");
             return 64;
         }
@@ -87,8 +89,8 @@ int main(int count, char **words) {
 
     /* A gateway has verified the signatures; here all of them are taken to be good. A chain
        with more seals than instances can be is never built, and its verdicts aren't read. */
-    if (seals > INSTANCES)
-        seals = INSTANCES;
+    if (seals > ORBENDASH_INSTANCES)
+        seals = ORBENDASH_INSTANCES;
     memset(verdicts, 3, seals);
     orbendash_judge_answer chain = orbendash_judge(kept, strip.kept, verdicts, seals);
     if (chain.number != ORBENDASH_DONE)
@@ -107,5 +109,9 @@ int main(int count, char **words) {
     if (chain.has_oldest_pass)
         printf(", oldest-pass %zu", chain.oldest_pass);
     printf("\n");
+    if (fflush(stdout) != 0 || ferror(stdout)) {
+        perror("standard output");
+        return 74;
+    }
     return 0;
 }

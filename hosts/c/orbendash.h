@@ -21,6 +21,23 @@
 extern "C" {
 #endif
 
+#define ORBENDASH_VERSION "0.1.0"
+
+/* Limits. There is none on the results in a field. */
+enum {
+    ORBENDASH_BYTES = 65536,     /* the most bytes of a block or a body */
+    ORBENDASH_FIELDS = 512,      /* the most fields of a block */
+    ORBENDASH_ENTRIES = 64,      /* the most entries of the own list */
+    ORBENDASH_ENTRY_BYTES = 255, /* the most bytes of one, without its LF */
+    ORBENDASH_INSTANCES = 50     /* the highest instance of an ARC chain */
+};
+
+/* The most bytes of a good list, LFs included. */
+#define ORBENDASH_LIST_BYTES (ORBENDASH_ENTRIES * (ORBENDASH_ENTRY_BYTES + 1))
+
+/* A room that the report of a body of so many bytes always fits. */
+#define ORBENDASH_REPORT_ROOM(body_length) (3 * (size_t)(body_length) + 4)
+
 /*
  * Answer numbers. All but 0 and 8 are refusals: nothing is written, and in the struct all but
  * number and place are 0. On every answer the bytes of the output past those written stay as
@@ -29,7 +46,7 @@ extern "C" {
 enum {
     /* Done. Place 0. */
     ORBENDASH_DONE = 0,
-    /* The block or body is over 65536 bytes. Place 0. */
+    /* The block or body is over ORBENDASH_BYTES bytes. Place 0. */
     ORBENDASH_TOO_LONG = 1,
     /* A CR without LF, an LF without CR, or a last line without CRLF. Place: that byte; for an
        unfinished line the block's length. */
@@ -37,7 +54,7 @@ enum {
     /* An empty line, a first line that starts with space or tab, or a field that lacks its name
        or colon. Place: start of the line. */
     ORBENDASH_BAD_LINE = 3,
-    /* A 513th field. Place: its start. */
+    /* A field more than ORBENDASH_FIELDS. Place: its start. */
     ORBENDASH_TOO_MANY_FIELDS = 4,
     /* A bad own list. Place: start of the first bad entry. */
     ORBENDASH_BAD_LIST = 5,
@@ -67,9 +84,9 @@ typedef struct {
  * Copies a header block to out without the Authentication-Results fields whose identifier is on
  * our own list or can't be read.
  *
- * The list holds our identifiers, each ended by LF: at most 64, each of 1 to 255 bytes 33 to
- * 126. It may be empty. Identifiers compare without regard to ASCII case. An output as long as
- * the block is always long enough.
+ * The list holds our identifiers, each ended by LF: at most ORBENDASH_ENTRIES, each of 1 to
+ * ORBENDASH_ENTRY_BYTES bytes 33 to 126. It may be empty. Identifiers compare without regard to
+ * ASCII case. An output as long as the block is always long enough.
  *
  * The first of these that applies is the number: 1 the block is too long; 5 a bad list; 2, 3 or
  * 4 a bad block; 6 no room; 0 done.
@@ -104,7 +121,8 @@ typedef struct {
  * In texts the bytes outside 33 to 126 and the percent sign are % and two upper-case hex
  * digits. Methods, results, ptypes and properties are in lower case. A result is ignored, and
  * counted, if its method version isn't 1, or if the method, its result or a ptype isn't known.
- * An output three times as long as the body and 8 bytes more is always long enough.
+ * An output of ORBENDASH_REPORT_ROOM(body_length) bytes, three times the body and 4, is always
+ * long enough.
  *
  * The first of these that applies is the number: 1 the body is too long; 7 a bad identifier; 9
  * a bad body; 6 no room; 8 another header version; 0 done. After a header version other than 1

@@ -4,75 +4,43 @@
 //
 // A report has for each such field, in the block's order, the line
 //   field <tab> its number among all fields, from 1 <tab> own, other or unreadable <tab> answer number <tab> ignored results
-// and then the field's own report (see `report::report`). A refusal writes nothing to standard output and one line to standard error:
-//   orbendash: NUMBER: meaning, at PLACE
-// with the numbers of 01, or 64 for wrong usage, 66 for a list that can't be opened and 74 for an output that can't be written. A program of
-// this kit can't choose its exit status; `bin/orbendash` takes it from that line.
-use authserv::own::Own;
+// and then the field's own report (see `report::report`). It is put together whole and written then. A refusal writes nothing to standard
+// output. One line on standard error says how it ended (`answers.rt`): with the numbers of 01, or 64 for wrong usage, 66 for a list that can't
+// be opened or read, 70 for a failure of the program, 74 for a block that can't be read or an output that can't be written; 0 only where all of
+// the output has been written.
+mod answers;
+mod lines;
+mod transfer;
+
 use block::Checked;
+use block::Entries;
 use block::Next;
 use block::Walk;
-use libc::STDERR_FILENO;
+use lexis::Cursor;
 use libc::STDIN_FILENO;
 use libc::STDOUT_FILENO;
+ghost use Prim.Native.Nat.{_≤_};
+ghost use lib.ListN.{length};
 
 // The most bytes of a block that are read: one more than a block may have.
-const BLOCK: usize = 65537;
+const BLOCK: usize = Cursor::BYTES + 1;
 
-// The most bytes of a list that are read. 64 entries with their LF have at most 16,384 bytes; what is behind them, or behind 256 bytes
-// without LF, can't change which entry is the first bad one.
-const LIST: usize = 16700;
+// The most bytes of a list that are read: all entries that a list may have, each with its LF, and one more that is too long. What is behind
+// these can't change which entry is the first bad one.
+const LIST: usize = (Entries::ENTRIES + 1) * (Entries::LONGEST + 1);
 
-// A report has at most three times the bytes of its body and four more.
-const REPORT: usize = 196612;
+// A room that every report fits: three times the bytes of its body and four more.
+const REPORT: usize = 3 * Cursor::BYTES + 4;
 
-// A number as it is written.
-fn wide(n: u8) -> u64 {
-    n as u64
-}
+// A room that the reports of all fields of a block fit, and one byte more: for each field its line of less than 60 bytes, and four.
+const REPORTS: usize = 3 * Cursor::BYTES + 64 * Walk::FIELDS + 1;
 
-fn say(text: &[u8]) {
-    io::write_all(STDERR_FILENO, text);
-}
-
-// What an answer number means.
-fn say_meaning(number: u8) {
-    if number == 1 {
-        return say(b"the block has more than 65,536 bytes");
-    }
-    if number == 2 {
-        return say(b"a CR without LF, an LF without CR, or a last line without CRLF");
-    }
-    if number == 3 {
-        return say(
-            b"an empty line, a first line that starts with space or tab, or a field without name or colon",
-        );
-    }
-    if number == 4 {
-        return say(b"a 513th field");
-    }
-    if number == 5 {
-        return say(b"a bad entry of the list");
-    }
-    say(b"the output is too long")
-}
-
-// The line of a refusal.
-fn refuse(number: u8, place: usize) {
-    say(b"orbendash: ");
-    io::print_decimal(STDERR_FILENO, wide(number));
-    say(b": ");
-    say_meaning(number);
-    say(b", at ");
-    io::print_decimal(STDERR_FILENO, place as u64);
-    say(b"\n");
-}
-
-// Writes to standard output. Where that fails, as on a full disk, a line says so.
+// Writes the output. Only where all of it went does the command say that it is done.
 fn put(text: &[u8]) {
-    if !io::write_all(STDOUT_FILENO, text) {
-        say(b"orbendash: 74: standard output can't be written\n");
+    if transfer::write_whole(STDOUT_FILENO, text) {
+        return answers::done();
     }
+    answers::unwritten();
 }
 
 // Strips a block and writes what is kept.
@@ -80,53 +48,62 @@ fn strip_block(block: &[u8], list: &[u8]) {
     let mut out = [0u8; BLOCK];
     let r = strip::strip(block, list, &mut out);
     if r.number != 0 {
-        return refuse(r.number, r.place);
+        return answers::refuse(r.number, r.place, list);
     }
     if r.kept <= out.len() {
-        put(&out[..r.kept]);
+        return put(&out[..r.kept]);
     }
+    answers::too_long();
 }
 
-fn put_number(n: u64) {
-    io::print_decimal(STDOUT_FILENO, n);
-}
-
-// Whose the identifier of a field is.
-fn put_whose(o: Own) {
-    match o {
-        Own::Ours => put(b"\town\t"),
-        Own::Others => put(b"\tother\t"),
-        Own::Unreadable => put(b"\tunreadable\t"),
+// Adds the n-th field of the block: its line and its report.
+fn add_report(n: usize, list: &[u8], body: &[u8], out: &mut [u8], from: usize) -> usize
+    ensures { λ r. ⌜ r ≤ length (now (out .exit)) ⌝ }
+{
+    let mut text = [0u8; REPORT];
+    let r = report::report(body, &mut text);
+    let at = lines::add_field(
+        n,
+        authserv::own::whose(list, body),
+        r.number,
+        r.ignored,
+        out,
+        from,
+    );
+    if r.number == 6 {
+        return out.len();
     }
-}
-
-// The n-th field of the block: its line and its report.
-fn report_field(n: usize, list: &[u8], body: &[u8]) {
-    let mut out = [0u8; REPORT];
-    let r = report::report(body, &mut out);
-    put(b"field\t");
-    put_number(n as u64);
-    put_whose(authserv::own::whose(list, body));
-    put_number(wide(r.number));
-    put(b"\t");
-    put_number(r.ignored as u64);
-    put(b"\n");
-    if r.written <= out.len() {
-        put(&out[..r.written]);
+    if r.written <= text.len() {
+        return lines::add(&text[..r.written], out, at);
     }
+    out.len()
 }
 
-// Reports a field if it is an Authentication-Results field.
-fn report_if(n: usize, list: &[u8], name: &[u8], body: &[u8]) {
+// Adds a field if it is an Authentication-Results field.
+fn add_if(n: usize, list: &[u8], name: &[u8], body: &[u8], out: &mut [u8], at: usize) -> usize
+    requires { ⌜ at ≤ length (now out) ⌝ }
+    ensures { λ r. ⌜ r ≤ length (now (out .exit)) ⌝ }
+{
     if lexis::text::same_text(name, b"Authentication-Results") {
-        report_field(n, list, body);
+        return add_report(n, list, body, out, at);
     }
+    at
 }
 
-// Goes over the fields of a block. `loud` says whether they are reported; a refusal is said in either case.
-fn walk(block: &[u8], list: &[u8], loud: bool) -> bool {
+// What came of going over a block: the number and place of its answer, and where the reports of its fields end.
+struct Reports {
+    number: u8,
+    place: usize,
+    end: usize,
+}
+
+// Adds the reports of a block's fields.
+fn add_reports(block: &[u8], list: &[u8], out: &mut [u8]) -> Reports
+    ensures { λ r. ⌜ r .end ≤ length (now (out .exit)) ⌝ }
+{
     let mut at: usize = 0;
     let mut count: usize = 0;
+    let mut to: usize = 0;
     loop {
         match block::next_field(block, Walk { at, count }) {
             Next::Field {
@@ -137,21 +114,28 @@ fn walk(block: &[u8], list: &[u8], loud: bool) -> bool {
             } => {
                 count += 1;
                 at = end;
-                if loud {
-                    report_if(
-                        count,
-                        list,
-                        &block[start..name_end],
-                        &block[body_start..end - 2],
-                    );
-                }
+                to = add_if(
+                    count,
+                    list,
+                    &block[start..name_end],
+                    &block[body_start..end - 2],
+                    out,
+                    to,
+                );
             }
             Next::End => {
-                return true;
+                return Reports {
+                    number: 0,
+                    place: 0,
+                    end: to,
+                };
             }
             Next::Refused { number, place } => {
-                refuse(number, place);
-                return false;
+                return Reports {
+                    number,
+                    place,
+                    end: 0,
+                };
             }
         }
     }
@@ -160,62 +144,83 @@ fn walk(block: &[u8], list: &[u8], loud: bool) -> bool {
 // Reports a block: 1, then 5, then 2 to 4, and only then is anything written.
 fn report_block(block: &[u8], list: &[u8]) {
     if lexis::too_long(block) {
-        return refuse(1, 0);
+        return answers::refuse(1, 0, list);
     }
     match block::check_list(list) {
         Checked::Bad { place } => {
-            return refuse(5, place);
+            return answers::refuse(5, place, list);
         }
         Checked::Good => {}
     }
-    if walk(block, list, false) {
-        walk(block, list, true);
+    let mut out = [0u8; REPORTS];
+    let r = add_reports(block, list, &mut out);
+    if r.number != 0 {
+        return answers::refuse(r.number, r.place, list);
     }
+    let end = r.end;
+    if lines::is_whole(&out, end) {
+        return put(&out[..end]);
+    }
+    answers::too_long();
 }
 
-// Reads the block and the list, and does what is asked.
+// Reads the list and the block, and does what is asked.
 fn run(list_file: i32, strips: bool) {
     let mut list = [0u8; LIST];
-    let m = io::read_full(list_file, &mut list);
+    let entries = transfer::read_whole(list_file, &mut list);
+    if !entries.whole {
+        return answers::list_unread();
+    }
     let mut block = [0u8; BLOCK];
-    let n = io::read_full(STDIN_FILENO, &mut block);
+    let fields = transfer::read_whole(STDIN_FILENO, &mut block);
+    if !fields.whole {
+        return answers::block_unread();
+    }
+    let m = entries.length;
+    let n = fields.length;
     if strips {
         return strip_block(&block[..n], &list[..m]);
     }
     report_block(&block[..n], &list[..m]);
 }
 
-fn usage() {
-    say(
-        b"orbendash: 64: usage: orbendash strip LIST < BLOCK, orbendash report LIST < BLOCK or orbendash --help\n",
-    );
-}
-
 // Opens the list that the second argument names.
 fn with_list(strips: bool) {
     let mut path = io::buffer();
     let n = os::arg(2, &mut path);
-    let file = os::open_read(&path[..n]);
+    let file = transfer::open(&path[..n]);
     if file < 0 {
-        return say(b"orbendash: 66: the list can't be opened\n");
+        return answers::list_closed();
     }
     run(file, strips);
     libc::close(file);
 }
 
-// Whether the first argument is this word. A word that is too long for the buffer is none.
+// Whether two texts are the same, byte by byte.
+fn is_same(a: &[u8], b: &[u8]) -> bool {
+    if a.len() != b.len() {
+        return false;
+    }
+    let mut i: usize = 0;
+    while i < a.len() {
+        if a[i] != b[i] {
+            return false;
+        }
+        i += 1;
+    }
+    true
+}
+
+// Whether the first argument is this word. One that is too long for the buffer is none.
 fn asks(word: &[u8]) -> bool {
     let mut text = io::buffer();
     let n = os::arg(1, &mut text);
-    if n != word.len() {
-        return false;
-    }
-    lexis::text::same_text(&text[..n], word)
+    is_same(&text[..n], word)
 }
 
 fn main() {
     if os::arg_count() != 3 {
-        return usage();
+        return answers::usage();
     }
     if asks(b"strip") {
         return with_list(true);
@@ -223,5 +228,5 @@ fn main() {
     if asks(b"report") {
         return with_list(false);
     }
-    usage();
+    answers::usage();
 }

@@ -17,6 +17,7 @@
 //! ```
 
 pub mod answer;
+pub mod limit;
 pub mod reference;
 
 pub use answer::{
@@ -86,8 +87,8 @@ pub fn strip(block: &[u8], list: &[u8], out: &mut [u8]) -> StripAnswer {
 /// by LF with columns parted by tabs: `id`, text; `none`; for each result that isn't ignored `m`,
 /// method, result, then `r`, text if there is a reason, and `p`, ptype, property, kind (t token,
 /// q quoted, m mailbox, a at-domain), text for each property. In texts the bytes outside 33 to
-/// 126 and the percent sign are % and two hex digits. Three times the body's length plus 8 is
-/// always enough room.
+/// 126 and the percent sign are % and two hex digits. [`limit::report_room`] is always enough
+/// room.
 ///
 /// The first of these that applies is the number: 1 the body is over 65,536 bytes; 7 the
 /// identifier can't be read; 9 the body isn't well-formed; 6 the room is too small, with the
@@ -180,7 +181,7 @@ impl<'a> Iterator for Fields<'a> {
         // A call reads the block from its front, so it is handed only what is left: where a
         // field ends, the rest is a block by itself. It has its own count of fields, though, so
         // after the most that a block may have, the whole block is asked.
-        let from = if self.given < 512 { self.place } else { 0 };
+        let from = if self.given < limit::FIELDS { self.place } else { 0 };
         let rest = &self.block[from..];
         let answer = next_field(rest, self.place - from);
         if answer.found == 1 {

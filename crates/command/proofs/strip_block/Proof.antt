@@ -1,7 +1,8 @@
 -- The kept bytes are a part of the lent ones, since that was tested. Assumes nothing.
+use Prim.Native.Nat.{_-_}
+use native.Mathlib.Omega.{arith}
 use mathlib.Core.Path.{sym}
 use lib.Seq.{length-take-le}
-use native.Mathlib.Omega.{arith}
 use borrow.Author.Needs.{needs}
 use Rattle.command.proofs.strip_block.Statement.{statement}
 use Rattle.command.proofs.strip_block.Tie as tie
@@ -30,6 +31,9 @@ put-requires c κs = search needs
 returns-2 : tie.Need-returns-2
 returns-2 c = search needs
 
+too-long-requires : tie.Need-too-long-requires
+too-long-requires c κs = search needs
+
 returns-3 : tie.Need-returns-3
 returns-3 c = search needs
 
@@ -45,4 +49,5 @@ strip-block-spec =
     slice-aggregate-put
     put-requires
     returns-2
+    too-long-requires
     returns-3)

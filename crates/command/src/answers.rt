@@ -1,0 +1,153 @@
+// The one line on standard error with which the command ends:
+//   orbendash: NUMBER: meaning, at PLACE
+// for a refusal with a number of 01, the same without a place for the command's own numbers, and
+//   orbendash: 0: done
+// where all of the output has been written. Each is written in one call. `bin/orbendash` takes the exit status from this line and takes its
+// absence for a failure, so nothing that goes wrong on the way can look like success.
+use block::Entries;
+use libc::STDERR_FILENO;
+ghost use Prim.Native.Nat.{_≤_};
+ghost use lib.ListN.{length};
+
+// More than any line has.
+const LINE: usize = 256;
+
+// Writes a line. Where that fails there is nothing left to tell it by: the line is missing.
+fn say(line: &[u8]) {
+    super::transfer::write_whole(STDERR_FILENO, line);
+}
+
+// All of the output has been written.
+pub fn done() {
+    say(b"orbendash: 0: done\n");
+}
+
+// Wrong usage.
+pub fn usage() {
+    say(
+        b"orbendash: 64: usage: orbendash strip LIST < BLOCK, orbendash report LIST < BLOCK or orbendash --help\n",
+    );
+}
+
+// The list can't be opened.
+pub fn list_closed() {
+    say(b"orbendash: 66: the list can't be opened\n");
+}
+
+// A read of the list failed.
+pub fn list_unread() {
+    say(b"orbendash: 66: the list can't be read\n");
+}
+
+// A read of the block failed.
+pub fn block_unread() {
+    say(b"orbendash: 74: standard input can't be read\n");
+}
+
+// The output does not fit its buffer. That can't be, by the limits; if it ever is, nothing is written.
+pub fn too_long() {
+    say(b"orbendash: 70: the output is too long\n");
+}
+
+// A write of the output failed.
+pub fn unwritten() {
+    say(b"orbendash: 74: standard output can't be written\n");
+}
+
+// How many LF stand in front of a place: so many entries of the list were passed.
+fn feeds_before(list: &[u8], place: usize) -> usize {
+    let mut count: usize = 0;
+    let mut i: usize = 0;
+    while i < list.len() {
+        if i >= place {
+            return count;
+        }
+        if list[i] == b'\n' {
+            count += 1;
+            i += 1;
+        } else {
+            i += 1;
+        }
+    }
+    count
+}
+
+// The next LF, or the end.
+fn feed_from(list: &[u8], at: usize) -> usize
+    ensures { λ r. ⌜ at ≤ r ⌝ }
+{
+    let mut i = at;
+    while i < list.len() {
+        if list[i] == b'\n' {
+            return i;
+        }
+        i += 1;
+    }
+    i
+}
+
+// Adds what is wrong with the entry of a list that starts at a place and is known to be bad (01, Block and list).
+fn add_fault(list: &[u8], place: usize, out: &mut [u8], at: usize) -> usize
+    ensures { λ r. ⌜ r ≤ length (now (out .exit)) ⌝ }
+{
+    if feeds_before(list, place) >= Entries::ENTRIES {
+        return super::lines::add(b"it is the 65th", out, at);
+    }
+    let end = feed_from(list, place);
+    if end - place > Entries::LONGEST {
+        return super::lines::add(b"it has more than 255 bytes", out, at);
+    }
+    if end >= list.len() {
+        return super::lines::add(b"it does not end with LF", out, at);
+    }
+    if end == place {
+        return super::lines::add(b"it is empty", out, at);
+    }
+    super::lines::add(b"it has a byte that may not stand there", out, at)
+}
+
+// Adds what a number of 01 means.
+fn add_meaning(number: u8, place: usize, list: &[u8], out: &mut [u8], at: usize) -> usize
+    ensures { λ r. ⌜ r ≤ length (now (out .exit)) ⌝ }
+{
+    if number == 1 {
+        return super::lines::add(b"the block has more than 65,536 bytes", out, at);
+    }
+    if number == 2 {
+        return super::lines::add(
+            b"a CR without LF, an LF without CR, or a last line without CRLF",
+            out,
+            at,
+        );
+    }
+    if number == 3 {
+        return super::lines::add(
+            b"an empty line, a first line that starts with space or tab, or a field without name or colon",
+            out,
+            at,
+        );
+    }
+    if number == 4 {
+        return super::lines::add(b"a 513th field", out, at);
+    }
+    if number == 5 {
+        let named = super::lines::add(b"a bad entry of the list: ", out, at);
+        return add_fault(list, place, out, named);
+    }
+    super::lines::add(b"the output is too long", out, at)
+}
+
+// A refusal by a number of 01; for 5 the list is looked at once more for what is wrong with its entry.
+pub fn refuse(number: u8, place: usize, list: &[u8]) {
+    let mut line = [0u8; LINE];
+    let mut at = super::lines::add(b"orbendash: ", &mut line, 0);
+    at = super::lines::add_number(super::lines::wide(number), &mut line, at);
+    at = super::lines::add(b": ", &mut line, at);
+    at = add_meaning(number, place, list, &mut line, at);
+    at = super::lines::add(b", at ", &mut line, at);
+    at = super::lines::add_number(place as u64, &mut line, at);
+    at = super::lines::add(b"\n", &mut line, at);
+    if at <= line.len() {
+        say(&line[..at]);
+    }
+}
