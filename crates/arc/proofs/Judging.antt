@@ -153,7 +153,7 @@ module _ (s verdicts : List ℕ) (r : Judged) (big : Bool) (b : big ≡ ltb byte
 -- what was gathered from nothing can be ranked
 pub rank-fits : (s : List ℕ) (p : List (List ℕ)) (v : List ℕ) (g : Gathered)
     → GatheredFrom s (replicate lastInstance (replicate 3 0)) (replicate lastInstance 0) p v g
-    → (g .counts .highest ≡ 0 → ⊥) → ((1 ≤ g .counts .highest) × (g .counts .highest ≤ 50)) × (Places p × (length v ≡ 50))
+    → (g .counts .highest ≡ 0 → ⊥) → ((1 ≤ g .counts .highest) × (g .counts .highest ≤ lastInstance)) × (Places p × (length v ≡ lastInstance))
 rank-fits s p v g w ne =
     let f : Fitting (setsOf p v (g .counts)) = rw (w .sets) (nothing-fits (fields s .items)) in
     ((omega (arith, ne), f .highest), (f .table, f .values))

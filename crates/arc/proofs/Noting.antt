@@ -108,7 +108,7 @@ module _ (kind : Kind) (n : ℕ) (body : List ℕ) (other : Bool) (h : other ≡
     read = said-by kind body _ (rw q at w)
 
     -- its instance is one of the fifty, and its kind has a column
-    pub read-range : n < 65536 → ((1 ≤ i) × (i ≤ 50)) × ((column kind < 3) × (n < 65536))
+    pub read-range : n < 65536 → ((1 ≤ i) × (i ≤ lastInstance)) × ((column kind < 3) × (n < 65536))
     read-range l = let r = says-range kind body _ _ (read .reads) in (r, (note-column kind (sym h ∙ e), l))
 
     -- it is placed

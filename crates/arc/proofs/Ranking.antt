@@ -13,6 +13,7 @@ use lib.Seq.{drop-cons, length-take-le, getD-take, take-suc, take-length}
 use Rattle.sequences.proofs.Booleans.{and-none}
 use Rattle.sequences.proofs.Lists.{empty-is}
 use Rattle.arc.specs.Chain.{rowEmpty, anyEmpty, allPass, prescribed, sealGood, signatureGood, all, validFor, passes, oldestFrom, oldestPass}
+use Rattle.arc.specs.Sets.{lastInstance}
 use Rattle.arc.specs.Internal.{Places}
 
 -- ==== all of a list
@@ -160,7 +161,7 @@ pub prescribed-none : (c : List ℕ) (n : ℕ) → n ≡ 0 → true ≡ prescrib
 unfolding prescribed
 prescribed-none c n e = rw e
 
-module _ (c : List ℕ) (n : ℕ) (pre : (n ≤ 50) × (length c ≡ 50)) where
+module _ (c : List ℕ) (n : ℕ) (pre : (n ≤ lastInstance) × (length c ≡ lastInstance)) where
   chain-long : length (take n c) ≡ n
   chain-long = length-take-le n c (omega (arith, pre))
 
@@ -213,7 +214,7 @@ pub record RowFrom (t : List (List ℕ)) (n : ℕ) (found : Bool) (i k : ℕ) : 
 pub rows-start : (t : List (List ℕ)) (n : ℕ) → RowsFrom t n false 0
 rows-start t n = record { none = refl; same = refl }
 
-module _ (t : List (List ℕ)) (n : ℕ) (pre : (n ≤ 50) × Places t) (found : Bool) (i : ℕ) where
+module _ (t : List (List ℕ)) (n : ℕ) (pre : (n ≤ lastInstance) × Places t) (found : Bool) (i : ℕ) where
   rows-long : length (take n t) ≡ n
   rows-long = length-take-le n t (omega (arith, pre .0, pre .1 .instances))
 

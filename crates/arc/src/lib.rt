@@ -31,6 +31,7 @@ ghost use lib.Dec.{ltb};
 ghost use lib.ListN.{length, take};
 ghost use Rattle.lexis.specs.Limits.{byteLimit};
 ghost use Rattle.arc.specs.Chain.{column, first, sealed, placed, noted, failed, built, anyEmpty, prescribed, sealGood, all, validFor, passes, oldestPass, blank, judged, judge};
+ghost use Rattle.arc.specs.Sets.{lastInstance};
 ghost use Rattle.arc.specs.Answers.{answerOf};
 ghost use Rattle.arc.specs.Internal.{fieldOf, fieldSaid, saidOf, isOther, setsOf, GatheredFrom, Places, rankedBy};
 
@@ -127,8 +128,8 @@ fn narrow(x: usize) -> u16
 }
 
 // Keeps a seal's chain value.
-fn keep_cv(kind: Kind, cvs: &mut [u8; 50], instance: usize, cv: u8)
-    requires { ⌜ (1 ≤ instance) × (instance ≤ 50) ⌝ }
+fn keep_cv(kind: Kind, cvs: &mut [u8; Instance::LAST], instance: usize, cv: u8)
+    requires { ⌜ (1 ≤ instance) × (instance ≤ lastInstance) ⌝ }
     ensures { λ _. ⌜ now (cvs .exit) ≡ sealed kind instance cv (now (cvs .entry)) ⌝ }
 {
     match kind {
@@ -147,11 +148,11 @@ fn place(
     n: usize,
     instance: usize,
     cv: u8,
-    places: &mut [[u16; 3]; 50],
-    cvs: &mut [u8; 50],
+    places: &mut [[u16; 3]; Instance::LAST],
+    cvs: &mut [u8; Instance::LAST],
     c: Counts,
 ) -> Counts
-    requires { ⌜ ((1 ≤ instance) × (instance ≤ 50)) × ((column kind < 3) × (n < 65536)) ⌝ }
+    requires { ⌜ ((1 ≤ instance) × (instance ≤ lastInstance)) × ((column kind < 3) × (n < 65536)) ⌝ }
     ensures { λ r. ⌜ setsOf (now (places .exit)) (now (cvs .exit)) r ≡ placed n kind (record { instance = instance; cv = cv }) (setsOf (now (places .entry)) (now (cvs .entry)) c) ⌝ }
 {
     let k = column(kind);
@@ -188,8 +189,8 @@ fn note(
     kind: Kind,
     n: usize,
     body: &[u8],
-    places: &mut [[u16; 3]; 50],
-    cvs: &mut [u8; 50],
+    places: &mut [[u16; 3]; Instance::LAST],
+    cvs: &mut [u8; Instance::LAST],
     c: Counts,
 ) -> Counts
     requires { ⌜ (length (now body) ≤ byteLimit) × (n < 65536) ⌝ }
@@ -216,12 +217,17 @@ struct Gathered {
 }
 
 // Notes all fields of a block, up to the first refusal.
-fn gather(s: &[u8], places: &mut [[u16; 3]; 50], cvs: &mut [u8; 50]) -> Gathered
+fn gather(
+    s: &[u8],
+    places: &mut [[u16; 3]; Instance::LAST],
+    cvs: &mut [u8; Instance::LAST],
+) -> Gathered
     requires { ⌜ length (now s) ≤ byteLimit ⌝ }
     ensures { λ r. ⌜ GatheredFrom (now (s .entry)) (now (places .entry)) (now (cvs .entry)) (now (places .exit)) (now (cvs .exit)) r ⌝ }
 {
-    let mut at: usize = 0;
-    let mut count: usize = 0;
+    let fresh = Walk::fresh();
+    let mut at = fresh.at;
+    let mut count = fresh.count;
     let mut c = Counts {
         unreadable: 0,
         repeated: 0,
@@ -259,8 +265,8 @@ fn gather(s: &[u8], places: &mut [[u16; 3]; 50], cvs: &mut [u8; 50]) -> Gathered
 }
 
 // Whether one of the first n instances has an empty place.
-fn has_empty(places: &[[u16; 3]; 50], n: usize) -> bool
-    requires { ⌜ (n ≤ 50) × Places (now places) ⌝ }
+fn has_empty(places: &[[u16; 3]; Instance::LAST], n: usize) -> bool
+    requires { ⌜ (n ≤ lastInstance) × Places (now places) ⌝ }
     ensures { λ r. ⌜ r ≡ anyEmpty (take n (now (places .entry))) ⌝ }
 {
     let mut found = false;
@@ -280,8 +286,8 @@ fn has_empty(places: &[[u16; 3]; 50], n: usize) -> bool
 }
 
 // Whether the chain values of the first n instances are none and then pass.
-fn is_prescribed(cvs: &[u8; 50], n: usize) -> bool
-    requires { ⌜ (n ≤ 50) × (length (now cvs) ≡ 50) ⌝ }
+fn is_prescribed(cvs: &[u8; Instance::LAST], n: usize) -> bool
+    requires { ⌜ (n ≤ lastInstance) × (length (now cvs) ≡ lastInstance) ⌝ }
     ensures { λ r. ⌜ r ≡ prescribed (take n (now (cvs .entry))) ⌝ }
 {
     if n == 0 {
@@ -420,8 +426,13 @@ fn weigh(n: usize, v: &[u8]) -> Judged
 }
 
 // The answer where every ARC field reads, none is repeated, and n is the highest instance.
-fn rank(places: &[[u16; 3]; 50], cvs: &[u8; 50], n: usize, v: &[u8]) -> Judged
-    requires { ⌜ ((1 ≤ n) × (n ≤ 50)) × (Places (now places) × (length (now cvs) ≡ 50)) ⌝ }
+fn rank(
+    places: &[[u16; 3]; Instance::LAST],
+    cvs: &[u8; Instance::LAST],
+    n: usize,
+    v: &[u8],
+) -> Judged
+    requires { ⌜ ((1 ≤ n) × (n ≤ lastInstance)) × (Places (now places) × (length (now cvs) ≡ lastInstance)) ⌝ }
     ensures { λ r. ⌜ r ≡ answerOf (judged (rankedBy n (now (places .entry)) (now (cvs .entry))) (now (v .entry))) ⌝ }
 {
     if has_empty(places, n) {
@@ -442,8 +453,8 @@ pub fn judge(s: &[u8], verdicts: &[u8]) -> Judged
     if lexis::too_long(s) {
         return blank(1, 0);
     }
-    let mut places = [[0u16; 3]; 50];
-    let mut cvs = [0u8; 50];
+    let mut places = [[0u16; 3]; Instance::LAST];
+    let mut cvs = [0u8; Instance::LAST];
     let g = gather(s, &mut places, &mut cvs);
     if g.number != 0 {
         return blank(g.number, g.place);

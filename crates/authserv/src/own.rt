@@ -15,8 +15,9 @@ ghost use Rattle.authserv.specs.Listed.{among, ownIf, ownOf};
 pub fn is_listed(list: &[u8], text: &[u8]) -> bool
     ensures { λ r. ⌜ r ≡ among (ownList (now (list .entry)) .items) (now (text .entry)) ⌝ }
 {
-    let mut at: usize = 0;
-    let mut count: usize = 0;
+    let fresh = Entries::fresh();
+    let mut at = fresh.at;
+    let mut count = fresh.count;
     loop {
         match block::next_entry(list, Entries { at, count }) {
             Listed::Entry { start, end } => {
@@ -40,7 +41,7 @@ pub fn is_listed(list: &[u8], text: &[u8]) -> bool
 fn is_quoted_listed(list: &[u8], body: &[u8], at: usize) -> bool
     ensures { λ r. ⌜ r ≡ among (ownList (now (list .entry)) .items) (quotedText (drop at (now (body .entry)))) ⌝ }
 {
-    let mut text = [0u8; 255];
+    let mut text = [0u8; Entries::LONGEST];
     let n = lexis::text::put_quoted(body, at, &mut text, 0);
     if n > Entries::LONGEST {
         return false;

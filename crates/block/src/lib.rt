@@ -344,8 +344,9 @@ pub enum Checked {
 pub fn check_list(s: &[u8]) -> Checked
     ensures { λ r. ⌜ r ≡ checkedOf (ownList (now (s .entry))) ⌝ }
 {
-    let mut at: usize = 0;
-    let mut count: usize = 0;
+    let fresh = Entries::fresh();
+    let mut at = fresh.at;
+    let mut count = fresh.count;
     loop {
         match next_entry(s, Entries { at, count }) {
             Listed::Entry { start: _, end } => {

@@ -101,8 +101,9 @@ struct Reports {
 fn add_reports(block: &[u8], list: &[u8], out: &mut [u8]) -> Reports
     ensures { λ r. ⌜ r .end ≤ length (now (out .exit)) ⌝ }
 {
-    let mut at: usize = 0;
-    let mut count: usize = 0;
+    let fresh = Walk::fresh();
+    let mut at = fresh.at;
+    let mut count = fresh.count;
     let mut to: usize = 0;
     loop {
         match block::next_field(block, Walk { at, count }) {

@@ -41,8 +41,9 @@ pub fn field_from(block: &[u8], from: usize) -> Step
             place: 0,
         };
     }
-    let mut at: usize = 0;
-    let mut count: usize = 0;
+    let fresh = Walk::fresh();
+    let mut at = fresh.at;
+    let mut count = fresh.count;
     loop {
         match block::next_field(block, Walk { at, count }) {
             Next::Field {

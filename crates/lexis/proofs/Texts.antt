@@ -8,10 +8,9 @@ use mathlib.Core.Path.{_≡_, refl, sym, _∙_}
 use mathlib.Core.Bool.{Bool, true, false}
 use mathlib.Core.Logic.{_⊎_, inl, inr, ⊎-elim}
 use mathlib.Core.List.{List, [], _∷_, map}
-use lib.Dec.{eqb}
 use lib.ListN.{length, getD, drop, set, length-map, drop-of-length-le, List·getD-map}
 use lib.Seq.{drop-cons, drop-drop}
-use borrow.Author.Tests.{eqb-true, eqb-false, eq-eqb, ne-eqb}
+use borrow.Author.Tests.{eq-eqb, ne-eqb}
 use mir.Syntax.{w64}
 use mir.Val.{Fits}
 use Rattle.sequences.specs.Stored.{Put}
@@ -58,15 +57,6 @@ lower-done part old out to j m n l h q e = rw (← length-map part lower) (store
 pub alike-long : (a b : List ℕ) → (length a ≡ length b → ⊥) → false ≡ alike a b
 unfolding alike
 alike-long a b h = sym (same-long (map lower a) (map lower b) (λ e. h (sym (length-map a lower) ∙ e ∙ length-map b lower)))
-
--- nothing is left of one text
-alike-none : (b : List ℕ) (j : ℕ) → j ≤ length b → eqb j (length b) ≡ alike [] (drop j b)
-unfolding alike same
-alike-none b j h = go (eqb j (length b)) refl
-  where
-    go : (t : Bool) → eqb j (length b) ≡ t → t ≡ alike [] (drop j b)
-    go true e = let o : length b ≤ j = omega (arith, eqb-true j (length b) e) in rw (drop-of-length-le b o)
-    go false e = let o : j < length b = omega (arith, eqb-false j (length b) e) in rw (drop-cons b j 0 o)
 
 -- the code compares the first bytes in lower case
 module _ (x y : List ℕ) (u v p q : ℕ) (P : p ≡ lower u) (Q : q ≡ lower v) where
@@ -186,35 +176,3 @@ module _ (s whole old : List ℕ) (to : ℕ) (out : List ℕ) (i n k : ℕ) (w :
 
     pub copy-fits : length s < 2 ^ 64 → Fits w64 (n + 1)
     copy-fits l = omega (arith, w .bound, room-at (item Quoted) (item-fits Quoted) s i)
-
--- ==== it is compared with a text: the next item starts at i, the byte to compare its last byte with at j
-
-pub record Comparing (s whole t : List ℕ) (i j : ℕ) : Type 0 where
-  pub rests : alike (textAt s i) (drop j t) ≡ alike whole t
-  pub bound : j ≤ length t
-
-pub compare-start : (s t : List ℕ) (at i : ℕ) → drop i s ≡ drop 1 (drop at s) → Comparing s (quotedText (drop at s)) t i 0
-compare-start s t at i e = record { rests = rw (text-start s at i e); bound = omega arith }
-
-module _ (s whole t : List ℕ) (i j k : ℕ) (w : Comparing s whole t i j) (e : k ≡ item Quoted (drop i s)) where
-  pub compare-done : k ≡ 0 → eqb j (length t) ≡ alike whole t
-  compare-done z = alike-none t j (w .bound) ∙ (rw (text-none s i k e z) at (w .rests))
-
-  module _ (ne : k ≡ 0 → ⊥) where
-    pub compare-short : j ≡ length t → false ≡ alike whole t
-    unfolding alike same
-    compare-short q = let o : length t ≤ j = omega arith in rw (text-more s i k e ne, drop-of-length-le t o) at (w .rests)
-
-    module _ (nl : j ≡ length t → ⊥) (b p q : ℕ) (B : b ≡ getD (drop i s) (k - 1) 0) (P : p ≡ lower b) (Q : q ≡ lower (getD t j 0)) where
-      here : alike (b ∷ textAt s (i + k)) (getD t j 0 ∷ drop (j + 1) t) ≡ alike whole t
-      here = let o : j < length t = omega (arith, w .bound) in rw (B, add-one) (rw (text-more s i k e ne, drop-cons t j 0 o) at (w .rests))
-
-      pub compare-more : p ≡ q → Comparing s whole t (i + k) (j + 1)
-      compare-more r =
-          record {
-            rests = sym (alike-on (textAt s (i + k)) (drop (j + 1) t) _ _ p q P Q r) ∙ here;
-            bound = omega (arith, w .bound);
-          }
-
-      pub compare-not : (p ≡ q → ⊥) → false ≡ alike whole t
-      compare-not r = sym (alike-off (textAt s (i + k)) (drop (j + 1) t) _ _ p q P Q r) ∙ here

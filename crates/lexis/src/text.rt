@@ -152,25 +152,3 @@ pub fn put_quoted(s: &[u8], at: usize, out: &mut [u8], to: usize) -> usize
         i += k;
     }
 }
-
-// Whether the text of the quoted string that starts at a place equals a text but for ASCII case. Nothing is written.
-pub fn is_quoted_text(s: &[u8], at: usize, t: &[u8]) -> bool
-    ensures { λ r. ⌜ r ≡ alike (quotedText (drop at (now (s .entry)))) (now (t .entry)) ⌝ }
-{
-    let mut i = inside(s, at);
-    let mut j: usize = 0;
-    loop {
-        let k = super::item_at(s, i, Class::Quoted);
-        if k == 0 {
-            return j == t.len();
-        }
-        if j == t.len() {
-            return false;
-        }
-        if lower(reading::byte(s, i, k - 1)) != lower(t[j]) {
-            return false;
-        }
-        i += k;
-        j += 1;
-    }
-}

@@ -13,7 +13,7 @@ use Rattle.arc.specs.Answers as judging
 use Rattle.orbendash.specs.declared.StripFace.{StripFace}
 use Rattle.orbendash.specs.declared.ReportFace.{ReportFace}
 use Rattle.orbendash.specs.declared.JudgeFace.{JudgeFace}
-use Rattle.orbendash.specs.Faces.{stripFace, reportFace, toldBy, judgeFace}
+use Rattle.orbendash.specs.Faces.{stripFace, reportFace, hasOldestPass, judgeFace}
 
 pub strip-faced : (r : Stripped) (a : strip.Answer) → r ≡ stripping.answerOf a
     → _≡_ {A = StripFace} (record { number = r .number; place = r .place; kept = r .kept; removed = r .removed; fields = r .fields }) (stripFace a)
@@ -23,18 +23,18 @@ pub report-faced : (r : Reported) (a : report.Answer) → r ≡ reporting.answer
     → _≡_ {A = ReportFace} (record { number = r .number; place = r .place; written = r .written; ignored = r .ignored }) (reportFace a)
 report-faced r a e = rw e
 
-pub judge-faced : (r : Judged) (a : arc.Answer) → r ≡ judging.answerOf a → (t : ℕ) → t ≡ toldBy (r .status)
+pub judge-faced : (r : Judged) (a : arc.Answer) → r ≡ judging.answerOf a → (t : ℕ) → t ≡ hasOldestPass (r .status)
     → _≡_ {A = JudgeFace}
     (record {
       number = r .number;
       outcome = r .outcome;
       reason = r .reason;
       status = r .status;
-      told = t;
+      «has_oldest_pass» = t;
       place = r .place;
       field = r .field;
       instances = r .instances;
-      oldest = r .oldest;
+      «oldest_pass» = r .oldest;
     })
     (judgeFace a)
 judge-faced r a e t h = rw (h, e)

@@ -20,8 +20,8 @@ abbrev pub reportFace : report.Answer → ReportFace
 reportFace a = record { number = a .number; place = a .place; written = length (a .written); ignored = a .ignored }
 
 -- there is an oldest-pass exactly where the status is pass
-abbrev pub toldBy : ℕ → ℕ
-toldBy status = cond (eqb status 1) 1 0
+abbrev pub hasOldestPass : ℕ → ℕ
+hasOldestPass status = cond (eqb status 1) 1 0
 
 abbrev pub judgeFace : arc.Answer → JudgeFace
 judgeFace a =
@@ -30,13 +30,13 @@ judgeFace a =
       outcome = a .outcome;
       reason = a .reason;
       status = a .status;
-      told = toldBy (a .status);
+      «has_oldest_pass» = hasOldestPass (a .status);
       place = a .place;
       field = a .field;
       instances = a .instances;
-      oldest = a .oldest;
+      «oldest_pass» = a .oldest;
     }
 
 abbrev pub nextFace : Step → NextFace
-nextFace (Field a n b e) = record { number = 0; found = 1; place = 0; start = a; named = n; bodied = b; end = e }
-nextFace (Last n p) = record { number = n; found = 0; place = p; start = 0; named = 0; bodied = 0; end = 0 }
+nextFace (Field a n b e) = record { number = 0; found = 1; place = 0; start = a; «name_end» = n; «body_start» = b; end = e }
+nextFace (Last n p) = record { number = n; found = 0; place = p; start = 0; «name_end» = 0; «body_start» = 0; end = 0 }

@@ -10,7 +10,7 @@ ghost use Rattle.body.specs.Report.{report};
 ghost use Rattle.report.specs.Answers as reporting;
 ghost use Rattle.arc.specs.Chain.{judge};
 ghost use Rattle.fields.specs.Steps.{stepFrom};
-ghost use Rattle.orbendash.specs.Faces.{stripFace, reportFace, toldBy, judgeFace, nextFace};
+ghost use Rattle.orbendash.specs.Faces.{stripFace, reportFace, hasOldestPass, judgeFace, nextFace};
 
 #[repr(C)]
 pub struct StripFace {
@@ -29,29 +29,29 @@ pub struct ReportFace {
     pub ignored: usize,
 }
 
-// `told` is 1 where there is an oldest-pass.
+// `has_oldest_pass` is 1 where there is one.
 #[repr(C)]
 pub struct JudgeFace {
     pub number: u8,
     pub outcome: u8,
     pub reason: u8,
     pub status: u8,
-    pub told: u8,
+    pub has_oldest_pass: u8,
     pub place: usize,
     pub field: usize,
     pub instances: usize,
-    pub oldest: usize,
+    pub oldest_pass: usize,
 }
 
-// A field runs from `start` up to `end`, with its last CRLF; its name up to `named`, its body from `bodied` up to two before `end`.
+// A field runs from `start` up to `end`, with its last CRLF; its name up to `name_end`, its body from `body_start` up to two before `end`.
 #[repr(C)]
 pub struct NextFace {
     pub number: u8,
     pub found: u8,
     pub place: usize,
     pub start: usize,
-    pub named: usize,
-    pub bodied: usize,
+    pub name_end: usize,
+    pub body_start: usize,
     pub end: usize,
 }
 
@@ -87,8 +87,8 @@ pub extern "C" fn orbendash_report(body: &[u8], out: &mut [u8]) -> ReportFace
 }
 
 // 1 for the status pass, which is where there is an oldest-pass.
-fn told(status: u8) -> u8
-    ensures { λ r. ⌜ r ≡ toldBy status ⌝ }
+fn has_oldest_pass(status: u8) -> u8
+    ensures { λ r. ⌜ r ≡ hasOldestPass status ⌝ }
 {
     if status == 1 {
         return 1;
@@ -107,11 +107,11 @@ pub extern "C" fn orbendash_judge(s: &[u8], verdicts: &[u8]) -> JudgeFace
         outcome: r.outcome,
         reason: r.reason,
         status: r.status,
-        told: told(r.status),
+        has_oldest_pass: has_oldest_pass(r.status),
         place: r.place,
         field: r.field,
         instances: r.instances,
-        oldest: r.oldest,
+        oldest_pass: r.oldest,
     }
 }
 
@@ -131,8 +131,8 @@ pub extern "C" fn orbendash_next_field(s: &[u8], place: usize) -> NextFace
             found: 1,
             place: 0,
             start,
-            named: name_end,
-            bodied: body_start,
+            name_end,
+            body_start,
             end,
         },
         Step::Last { number, place: at } => NextFace {
@@ -140,8 +140,8 @@ pub extern "C" fn orbendash_next_field(s: &[u8], place: usize) -> NextFace
             found: 0,
             place: at,
             start: 0,
-            named: 0,
-            bodied: 0,
+            name_end: 0,
+            body_start: 0,
             end: 0,
         },
     }

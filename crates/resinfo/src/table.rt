@@ -1,4 +1,5 @@
-// The table of methods with the results of each (RFC 8601, 2.7), and the four ptypes (RFC 8601, 2.3).
+// The table of methods with the results of each (01, Results; of the four that RFC 8601 defines: dkim 2.7.1, spf 2.7.2, iprev 2.7.3, auth
+// 2.7.4; dmarc is RFC 7489's and arc RFC 8617's), and the four ptypes (RFC 8601, 2.3).
 //
 // A text that is asked for is bytes of the input as they stand there, of any length. It is compared with the names of a table without case.
 use lexis::text::same_text;

@@ -62,8 +62,9 @@ fn is_removed(list: &[u8], name: &[u8], body: &[u8]) -> bool
 fn sift(s: &[u8], list: &[u8], out: &mut [u8]) -> Stripped
     ensures { λ r. ⌜ Sifted (now (s .entry)) (now (list .entry)) (now (out .entry)) (now (out .exit)) r ⌝ }
 {
-    let mut at: usize = 0;
-    let mut count: usize = 0;
+    let fresh = Walk::fresh();
+    let mut at = fresh.at;
+    let mut count = fresh.count;
     let mut kept: usize = 0;
     let mut removed: usize = 0;
     let mut fields: usize = 0;

@@ -20,18 +20,21 @@ abbrev μ-loop : tie.MeasureT-loop
 -- the field that a turn takes
 step : (c : tie.After-known-told Inv-loop μ-loop)
     → Field (c .before .start .given .0 .0) (c .before .start .given .0 .1 .0) (c .before .start .given .0 .1 .1 .0) (c .before .start .given .0 .1 .1 .1 .0)
-    ≡ nextFrom (c .before .before .before .before .loop .at) (c .before .before .before .before .loop .count) (drop (c .before .before .before .before .loop .at) (c .before .before .before .before .before .before .before .args .s .now))
+    ≡ nextFrom (c .before .before .before .before .loop .at) (c .before .before .before .before .loop .count) (drop (c .before .before .before .before .loop .at) (c .before .before .before .before .before .before .before .before .args .s .now))
 step c = sym (c .before .start .given .1) ∙ c .before .before .before .next-field .ensures
 
 near : (c : tie.After-known-told Inv-loop μ-loop)
-    → Cut (c .before .before .before .before .before .before .before .args .s .now) (c .before .before .before .before .loop .at) (c .before .before .before .before .loop .count) (c .before .start .given .0 .0) (c .before .start .given .0 .1 .0) (c .before .start .given .0 .1 .1 .0) (c .before .start .given .0 .1 .1 .1 .0)
+    → Cut (c .before .before .before .before .before .before .before .before .args .s .now) (c .before .before .before .before .loop .at) (c .before .before .before .before .loop .count) (c .before .start .given .0 .0) (c .before .start .given .0 .1 .0) (c .before .start .given .0 .1 .1 .0) (c .before .start .given .0 .1 .1 .1 .0)
 near c = step-field _ _ _ _ _ _ _ (step c)
 
 none-requires : tie.Need-none-requires Inv-loop μ-loop
 none-requires c κs = search needs
 
+fresh-requires : tie.Need-fresh-requires Inv-loop μ-loop
+fresh-requires c κs = search needs
+
 loop-holds : tie.Need-loop-holds Inv-loop μ-loop
-loop-holds c = gather-start _ _ _ _ (c .none .ensures)
+loop-holds c = rw (c .before .fresh .ensures) (gather-start _ _ _ _ (c .none .ensures))
 
 next-field-requires : tie.Need-next-field-requires Inv-loop μ-loop
 next-field-requires c κs = search needs
@@ -67,7 +70,7 @@ part-note-end : tie.Need-part-note-end Inv-loop μ-loop
 part-note-end c = omega (arith, near (c .before .before), c .before .before .before .before .before .before .loop .inv .inside)
 
 note-requires : tie.Need-note-requires Inv-loop μ-loop
-note-requires c κs = body-fits _ _ _ _ _ _ _ (near (c .before .before .before .before .before)) (c .before .before .before .before .before .before .before .before .before .before .before .before .pre)
+note-requires c κs = body-fits _ _ _ _ _ _ _ (near (c .before .before .before .before .before)) (c .before .before .before .before .before .before .before .before .before .before .before .before .before .pre)
 
 add-count : tie.Need-add-count Inv-loop μ-loop
 add-count c = omega (arith, near (c .before .before .before .before .before .before), c .before .before .before .before .before .before .before .before .before .before .loop .inv .inside)
@@ -96,6 +99,7 @@ gather-spec =
     (tie.spec
     Inv-loop
     μ-loop
+    fresh-requires
     none-requires
     loop-holds
     next-field-requires

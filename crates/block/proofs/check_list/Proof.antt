@@ -15,11 +15,14 @@ abbrev μ-loop : tie.MeasureT-loop
 μ-loop s at₀ count₀ at count = length s - at
 
 -- the entry that a turn takes
-taken : (c : tie.After-known-told Inv-loop μ-loop) → Taken (c .before .before .before .before .before .before .args .s .now) (c .before .before .before .before .loop .at) (c .before .before .before .before .loop .count) (c .before .end .given .0 .0) (c .before .end .given .0 .1 .0)
+taken : (c : tie.After-known-told Inv-loop μ-loop) → Taken (c .before .before .before .before .before .before .before .args .s .now) (c .before .before .before .before .loop .at) (c .before .before .before .before .loop .count) (c .before .end .given .0 .0) (c .before .end .given .0 .1 .0)
 taken c = entries-next _ _ _ _ _ (sym (c .before .end .given .1) ∙ c .before .before .before .next-entry .ensures)
 
+fresh-requires : tie.Need-fresh-requires Inv-loop μ-loop
+fresh-requires c κs = search needs
+
 loop-holds : tie.Need-loop-holds Inv-loop μ-loop
-loop-holds c = check-start _
+loop-holds c = rw (c .fresh .ensures) (check-start _)
 
 next-entry-requires : tie.Need-next-entry-requires Inv-loop μ-loop
 next-entry-requires c κs = search needs
@@ -57,6 +60,7 @@ check-list-spec =
     (tie.spec
     Inv-loop
     μ-loop
+    fresh-requires
     loop-holds
     next-entry-requires
     enum-known-end

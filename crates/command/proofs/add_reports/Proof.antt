@@ -20,15 +20,18 @@ abbrev μ-loop : tie.MeasureT-loop
 -- the field that a turn takes
 step : (c : tie.After-known-told Inv-loop μ-loop)
     → Field (c .before .start .given .0 .0) (c .before .start .given .0 .1 .0) (c .before .start .given .0 .1 .1 .0) (c .before .start .given .0 .1 .1 .1 .0)
-    ≡ nextFrom (c .before .before .before .before .loop .at) (c .before .before .before .before .loop .count) (drop (c .before .before .before .before .loop .at) (c .before .before .before .before .before .before .before .before .args .block .now))
+    ≡ nextFrom (c .before .before .before .before .loop .at) (c .before .before .before .before .loop .count) (drop (c .before .before .before .before .loop .at) (c .before .before .before .before .before .before .before .before .before .args .block .now))
 step c = sym (c .before .start .given .1) ∙ c .before .before .before .next-field .ensures
 
 near : (c : tie.After-known-told Inv-loop μ-loop)
-    → Cut (c .before .before .before .before .before .before .before .before .args .block .now) (c .before .before .before .before .loop .at) (c .before .before .before .before .loop .count) (c .before .start .given .0 .0) (c .before .start .given .0 .1 .0) (c .before .start .given .0 .1 .1 .0) (c .before .start .given .0 .1 .1 .1 .0)
+    → Cut (c .before .before .before .before .before .before .before .before .before .args .block .now) (c .before .before .before .before .loop .at) (c .before .before .before .before .loop .count) (c .before .start .given .0 .0) (c .before .start .given .0 .1 .0) (c .before .start .given .0 .1 .1 .0) (c .before .start .given .0 .1 .1 .1 .0)
 near c = step-field _ _ _ _ _ _ _ (step c)
 
+fresh-requires : tie.Need-fresh-requires Inv-loop μ-loop
+fresh-requires c κs = search needs
+
 loop-holds : tie.Need-loop-holds Inv-loop μ-loop
-loop-holds c = search needs
+loop-holds c = rw (c .fresh .ensures) (omega arith, omega arith, omega arith, search needs)
 
 next-field-requires : tie.Need-next-field-requires Inv-loop μ-loop
 next-field-requires c κs = search needs
@@ -93,6 +96,7 @@ add-reports-spec =
     (tie.spec
     Inv-loop
     μ-loop
+    fresh-requires
     loop-holds
     next-field-requires
     enum-known-start

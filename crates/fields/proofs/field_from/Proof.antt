@@ -19,11 +19,11 @@ abbrev μ-loop : tie.MeasureT-loop
 -- the field that a turn meets
 met : (c : tie.After-known-told Inv-loop μ-loop)
     → Field (c .before .start .given .0 .0) (c .before .start .given .0 .1 .0) (c .before .start .given .0 .1 .1 .0) (c .before .start .given .0 .1 .1 .1 .0)
-    ≡ nextFrom (c .before .before .before .before .loop .at) (c .before .before .before .before .loop .count) (drop (c .before .before .before .before .loop .at) (c .before .before .before .before .before .before .before .before .args .block .now))
+    ≡ nextFrom (c .before .before .before .before .loop .at) (c .before .before .before .before .loop .count) (drop (c .before .before .before .before .loop .at) (c .before .before .before .before .before .before .before .before .before .args .block .now))
 met c = sym (c .before .start .given .1) ∙ c .before .before .before .next-field .ensures
 
 at-field : (c : tie.After-known-told Inv-loop μ-loop)
-    → Cut (c .before .before .before .before .before .before .before .before .args .block .now) (c .before .before .before .before .loop .at) (c .before .before .before .before .loop .count) (c .before .start .given .0 .0) (c .before .start .given .0 .1 .0) (c .before .start .given .0 .1 .1 .0) (c .before .start .given .0 .1 .1 .1 .0)
+    → Cut (c .before .before .before .before .before .before .before .before .before .args .block .now) (c .before .before .before .before .loop .at) (c .before .before .before .before .loop .count) (c .before .start .given .0 .0) (c .before .start .given .0 .1 .0) (c .before .start .given .0 .1 .1 .0) (c .before .start .given .0 .1 .1 .1 .0)
 at-field c = step-field _ _ _ _ _ _ _ (met c)
 
 too-long-requires : tie.Need-too-long-requires Inv-loop μ-loop
@@ -32,8 +32,11 @@ too-long-requires c κs = search needs
 returns : tie.Need-returns Inv-loop μ-loop
 returns c = search-long _ _ _ (c .before .too-long .ensures) (c .if1 .taken)
 
+fresh-requires : tie.Need-fresh-requires Inv-loop μ-loop
+fresh-requires c κs = search needs
+
 loop-holds : tie.Need-loop-holds Inv-loop μ-loop
-loop-holds c = search-start _ _ _ (c .before .too-long .ensures) (c .if1 .left)
+loop-holds c = rw (c .fresh .ensures) (search-start _ _ _ (c .before .before .too-long .ensures) (c .before .if1 .left))
 
 next-field-requires : tie.Need-next-field-requires Inv-loop μ-loop
 next-field-requires c κs = search needs
@@ -73,6 +76,7 @@ field-from-spec =
     μ-loop
     too-long-requires
     returns
+    fresh-requires
     loop-holds
     next-field-requires
     enum-known-start

@@ -24,16 +24,19 @@ abbrev μ-loop : tie.MeasureT-loop
 -- the field that a turn takes
 step : (c : tie.After-known-told Inv-loop μ-loop)
     → Field (c .before .start .given .0 .0) (c .before .start .given .0 .1 .0) (c .before .start .given .0 .1 .1 .0) (c .before .start .given .0 .1 .1 .1 .0)
-    ≡ nextFrom (c .before .before .before .before .loop .at) (c .before .before .before .before .loop .count) (drop (c .before .before .before .before .loop .at) (c .before .before .before .before .before .before .before .before .args .s .now))
+    ≡ nextFrom (c .before .before .before .before .loop .at) (c .before .before .before .before .loop .count) (drop (c .before .before .before .before .loop .at) (c .before .before .before .before .before .before .before .before .before .args .s .now))
 step c = sym (c .before .start .given .1) ∙ c .before .before .before .next-field .ensures
 
 near : (c : tie.After-known-told Inv-loop μ-loop)
-    → Cut (c .before .before .before .before .before .before .before .before .args .s .now) (c .before .before .before .before .loop .at) (c .before .before .before .before .loop .count) (c .before .start .given .0 .0) (c .before .start .given .0 .1 .0) (c .before .start .given .0 .1 .1 .0) (c .before .start .given .0 .1 .1 .1 .0)
+    → Cut (c .before .before .before .before .before .before .before .before .before .args .s .now) (c .before .before .before .before .loop .at) (c .before .before .before .before .loop .count) (c .before .start .given .0 .0) (c .before .start .given .0 .1 .0) (c .before .start .given .0 .1 .1 .0) (c .before .start .given .0 .1 .1 .1 .0)
 near c = step-field _ _ _ _ _ _ _ (step c)
 
 -- src/lib.rt:70:5
+fresh-requires : tie.Need-fresh-requires Inv-loop μ-loop
+fresh-requires c κs = search needs
+
 loop-holds : tie.Need-loop-holds Inv-loop μ-loop
-loop-holds c = sift-start _ _ _
+loop-holds c = rw (c .fresh .ensures) (sift-start _ _ _)
 
 -- src/lib.rt:71:15
 next-field-requires : tie.Need-next-field-requires Inv-loop μ-loop
@@ -161,6 +164,7 @@ sift-spec =
     (tie.spec
     Inv-loop
     μ-loop
+    fresh-requires
     loop-holds
     next-field-requires
     enum-known-start

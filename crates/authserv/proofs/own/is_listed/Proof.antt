@@ -18,14 +18,17 @@ abbrev μ-loop : tie.MeasureT-loop
 μ-loop list text at₀ count₀ at count = length list - at
 
 -- the entry that a turn takes
-step : (c : tie.After-known-told Inv-loop μ-loop) → Entry (c .before .start .given .0 .0) (c .before .start .given .0 .1 .0) ≡ listedFrom (c .before .before .before .before .loop .at) (c .before .before .before .before .loop .count) (drop (c .before .before .before .before .loop .at) (c .before .before .before .before .before .before .before .args .list .now))
+step : (c : tie.After-known-told Inv-loop μ-loop) → Entry (c .before .start .given .0 .0) (c .before .start .given .0 .1 .0) ≡ listedFrom (c .before .before .before .before .loop .at) (c .before .before .before .before .loop .count) (drop (c .before .before .before .before .loop .at) (c .before .before .before .before .before .before .before .before .args .list .now))
 step c = sym (c .before .start .given .1) ∙ c .before .before .before .next-entry .ensures
 
-taken : (c : tie.After-known-told Inv-loop μ-loop) → Taken (c .before .before .before .before .before .before .before .args .list .now) (c .before .before .before .before .loop .at) (c .before .before .before .before .loop .count) (c .before .start .given .0 .0) (c .before .start .given .0 .1 .0)
+taken : (c : tie.After-known-told Inv-loop μ-loop) → Taken (c .before .before .before .before .before .before .before .before .args .list .now) (c .before .before .before .before .loop .at) (c .before .before .before .before .loop .count) (c .before .start .given .0 .0) (c .before .start .given .0 .1 .0)
 taken c = entries-next _ _ _ _ _ (step c)
 
+fresh-requires : tie.Need-fresh-requires Inv-loop μ-loop
+fresh-requires c κs = search needs
+
 loop-holds : tie.Need-loop-holds Inv-loop μ-loop
-loop-holds c = seek-start _ _
+loop-holds c = rw (c .fresh .ensures) (seek-start _ _)
 
 next-entry-requires : tie.Need-next-entry-requires Inv-loop μ-loop
 next-entry-requires c κs = search needs
@@ -78,6 +81,7 @@ is-listed-spec =
     (tie.spec
     Inv-loop
     μ-loop
+    fresh-requires
     loop-holds
     next-entry-requires
     enum-known-start
