@@ -1,0 +1,3 @@
+pub mod Punycode
+pub mod Unicode
+pub mod Labels
