@@ -7,7 +7,7 @@ use native.Mathlib.Omega.{arith}
 use mathlib.Core.Path.{_≡_, refl, sym, ap, _∙_}
 use mathlib.Core.Bool.{Bool, true, false, cond, _&&_}
 use mathlib.Core.List.{List, [], _∷_}
-use borrow.Author.Tests.{le-leb, lt-leb, leb-true, leb-false}
+use borrow.Author.Tests.{le-leb, lt-leb, leb-true, leb-false, eqb-true}
 use lib.Dec.{eqb, leb}
 use lib.ListN.{length, getD, drop, take, length-drop, drop-of-length-le}
 use lib.Seq.{drop-drop, length-take-le}
@@ -52,6 +52,18 @@ entry-is xs n e = go (fills xs && stops xs) refl
         let a = leb-true 1 (entryText xs) (and-left (leb 1 (entryText xs)) (leb (entryText xs) longest) f) in
         let b = leb-true (entryText xs) longest (and-right (leb 1 (entryText xs)) (leb (entryText xs) longest) f) in
         (omega arith, omega arith)
+
+-- and ends where its LF stands
+pub entry-ends : (xs : List ℕ) (n : ℕ) → entry xs ≡ suc n → (n ≡ entryText xs) × (getD xs n 0 ≡ code "\n")
+unfolding entry
+entry-ends xs n e = go (fills xs && stops xs) refl
+  where
+    go : (t : Bool) → (fills xs && stops xs) ≡ t → (n ≡ entryText xs) × (getD xs n 0 ≡ code "\n")
+    go false q = absurd (let z : 0 ≡ suc n = rw (entry, q) at e in omega arith)
+    go true q =
+        let z : entryText xs + 1 ≡ suc n = rw (entry, q) at e in
+        let m : n ≡ entryText xs = omega arith in
+        (m, rw m (eqb-true (getD xs (entryText xs) 0) (code "\n") (and-right (fills xs) (stops xs) q)))
 
 -- its text ends at e
 module _ (s : List ℕ) (at e : ℕ) (q : e ≡ at + entryText (drop at s)) where

@@ -9,11 +9,13 @@ use Rattle.reading.specs.Walks.{item, refused, Walked, walk}
 use Rattle.reading.proofs.Cases.{case, Says, copies}
 use Rattle.lexis.specs.Bytes.{inClass, letter, lower, alike}
 use Rattle.block.specs.Fields.{Field, inLine, line, label, folded, extent, named, closed, fieldAt, fields, bytesOf, those}
-use Rattle.block.specs.OwnList.{entry, entryAt, ownList}
+use Rattle.block.specs.Utf8.{lead, second, further, sequence}
+use Rattle.block.specs.OwnList.{entryItem, entry, entryAt, ownList}
 
 -- every definition opened at once
 unfoldable pub opened : Unit {0}
-unfolding within oneOf same run many walk inClass letter lower alike inLine line label folded extent named closed fieldAt bytesOf those entry entryAt
+unfolding within oneOf same run many walk inClass letter lower alike inLine line label folded extent named closed fieldAt bytesOf those lead second further
+    sequence entryItem entry entryAt
 opened = tt
 
 -- the answer, its place, and of each field the length of its name, where its body starts, and its length
@@ -99,6 +101,63 @@ lists :
     ∷ [])
 unfolding opened
 lists = refl
+
+-- 02, ticket [2]: valid UTF-8 from 128 up. The first and the last sequence of each form of RFC 3629, section 4, and those next to them
+sequences :
+    map sequence
+    ((0xC2 ∷ 0x80 ∷ [])
+    ∷ (0xDF ∷ 0xBF ∷ [])
+    ∷ (0xE0 ∷ 0xA0 ∷ 0x80 ∷ [])
+    ∷ (0xEC ∷ 0xBF ∷ 0xBF ∷ [])
+    ∷ (0xED ∷ 0x9F ∷ 0xBF ∷ [])
+    ∷ (0xEE ∷ 0x80 ∷ 0x80 ∷ [])
+    ∷ (0xEF ∷ 0xBF ∷ 0xBF ∷ [])
+    ∷ (0xF0 ∷ 0x90 ∷ 0x80 ∷ 0x80 ∷ [])
+    ∷ (0xF3 ∷ 0xBF ∷ 0xBF ∷ 0xBF ∷ [])
+    ∷ (0xF4 ∷ 0x8F ∷ 0xBF ∷ 0xBF ∷ [])
+    ∷ [])
+    ≡ 2 ∷ 2 ∷ 3 ∷ 3 ∷ 3 ∷ 3 ∷ 3 ∷ 4 ∷ 4 ∷ 4 ∷ []
+unfolding opened
+sequences = refl
+
+-- a bare tail, forms with more bytes than are needed, surrogates, above 10FFFF, and sequences that lack a tail
+no-sequences :
+    map sequence
+    ((0x80 ∷ 0x80 ∷ [])
+    ∷ (0xBF ∷ [])
+    ∷ (0xC0 ∷ 0x80 ∷ [])
+    ∷ (0xC1 ∷ 0xBF ∷ [])
+    ∷ (0xE0 ∷ 0x9F ∷ 0xBF ∷ [])
+    ∷ (0xED ∷ 0xA0 ∷ 0x80 ∷ [])
+    ∷ (0xED ∷ 0xBF ∷ 0xBF ∷ [])
+    ∷ (0xF0 ∷ 0x8F ∷ 0xBF ∷ 0xBF ∷ [])
+    ∷ (0xF4 ∷ 0x90 ∷ 0x80 ∷ 0x80 ∷ [])
+    ∷ (0xF5 ∷ 0x80 ∷ 0x80 ∷ 0x80 ∷ [])
+    ∷ (0xFF ∷ [])
+    ∷ (0xC3 ∷ [])
+    ∷ (0xC3 ∷ 0xC3 ∷ [])
+    ∷ (0xE1 ∷ 0x80 ∷ [])
+    ∷ (0xE1 ∷ 0x80 ∷ 0xC0 ∷ [])
+    ∷ (0xF1 ∷ 0x80 ∷ 0x80 ∷ [])
+    ∷ (0xF1 ∷ 0x80 ∷ 0x80 ∷ 0x7F ∷ [])
+    ∷ [])
+    ≡ copies 17 0
+unfolding opened
+no-sequences = refl
+
+abbrev umlaut : List ℕ
+umlaut = bytes "b" ++ (0xC3 ∷ 0xBC ∷ bytes "cher.example")
+
+-- a sequence before and behind visible bytes; a bad one makes the whole entry bad
+international :
+    Says ownList
+    (case (umlaut ++ bytes "\n") (listed 0 0 (umlaut ∷ []))
+    ∷ case (bytes "a\n" ++ umlaut ++ bytes ".b" ++ umlaut ++ bytes "\n") (listed 0 0 (bytes "a" ∷ (umlaut ++ bytes ".b" ++ umlaut) ∷ []))
+    ∷ case (bytes "a\nb" ++ (0xFC ∷ bytes "cher\n")) (listed 5 2 (bytes "a" ∷ []))
+    ∷ case (bytes "a" ++ (0xC3 ∷ bytes "\n")) (listed 5 0 [])
+    ∷ [])
+unfolding opened
+international = refl
 
 -- an entry has 1 to 255 bytes, and the 65th, at the place 9, is bad
 lengths : map (λ (n : ℕ). entry (copies n 97 ++ bytes "\n")) (0 ∷ 1 ∷ 255 ∷ 256 ∷ []) ≡ 0 ∷ 2 ∷ 256 ∷ 0 ∷ []

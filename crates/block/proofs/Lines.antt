@@ -5,7 +5,7 @@ use Prim.Native.Nat.{ℕ, zero, suc, _+_, _-_, _≤_, _<_, _^_, zero-le}
 use native.Mathlib.Nat.{add-zero}
 use native.Mathlib.Omega.{arith}
 use mathlib.Core.Path.{_≡_, refl, sym, ap, _∙_}
-use mathlib.Core.Bool.{Bool, true, false, cond, _&&_}
+use mathlib.Core.Bool.{Bool, true, false, cond, _&&_, _||_}
 use mathlib.Core.List.{List, [], _∷_}
 use borrow.Author.Tests.{le-leb, lt-leb}
 use lib.Dec.{eqb, leb}
@@ -13,13 +13,13 @@ use lib.ListN.{length, getD, drop, take, length-drop, drop-of-length-le}
 use lib.Seq.{drop-drop, getD-drop}
 use mir.Syntax.{w64}
 use mir.Val as machine
-use Rattle.sequences.proofs.Booleans.{and-right, cond-le}
+use Rattle.sequences.proofs.Booleans.{no-true, and-right, cond-le}
 use Rattle.reading.specs.Readers.{run, many}
 use Rattle.reading.specs.Places.{Reaches}
 use Rattle.reading.specs.Locality.{Fits}
 use Rattle.reading.specs.Walks.{item, refused}
 use Rattle.reading.proofs.Readers.{there, there-at}
-use Rattle.reading.proofs.Loops.{reaches-onto, many-on, many-off, turn-less}
+use Rattle.reading.proofs.Loops.{reaches-onto, piece-more, many-on, many-off, turn-less}
 use Rattle.lexis.specs.declared.Class.the-variants.{Blank}
 use Rattle.lexis.specs.Bytes.{inClass}
 use Rattle.block.specs.declared.Next.{Next}
@@ -51,6 +51,12 @@ folded-fits xs = cond-le (inClass Blank (getD xs 0 0)) (line xs) 0 (length xs) (
 pub text-on : (c : ℕ → Bool) (s : List ℕ) (at i n : ℕ) (r : Bool) → Reaches (run c) s at i → (r ≡ false → Reaches (run c) s i (i + n)) → r ≡ false
     → Reaches (run c) s at (i + n)
 text-on c s at i n r w f e = reaches-onto w (f e)
+
+-- one byte after the other, as long as none has hit
+pub hits-on : (c : ℕ → Bool) (s : List ℕ) (at j : ℕ) (hit r : Bool) → (hit ≡ false → Reaches (run c) s at (at + j)) → at + j < length s
+    → (r ≡ false → c (getD s (at + j) 0) ≡ true) → (hit || r) ≡ false → Reaches (run c) s at (at + (j + 1))
+hits-on c s at j true r w h f e = absurd (no-true (sym e))
+hits-on c s at j false r w h f e = piece-more c s at j true (w refl) h (sym (f e)) refl
 
 -- CR and LF after the text of a line
 module _ (s : List ℕ) (at e : ℕ) (q : e ≡ at + lineText (drop at s)) (r : Bool) (h : r ≡ eqb (getD (drop e s) 0 0) (code "\r")) where

@@ -1,4 +1,5 @@
 pub mod Fields
+pub mod Utf8
 pub mod OwnList
 pub mod Steps
 pub mod Sound

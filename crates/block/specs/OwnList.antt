@@ -1,14 +1,16 @@
--- Document 01, "Block and list": our own list of identifiers, and answer 5. Assumes nothing: these are definitions.
+-- Document 01, "Block and list": our own list of identifiers, and answer 5; 02, ticket [2]: its entries in UTF-8. Assumes nothing: these are
+-- definitions.
 use Prim.Native.Char.{code}
 use Prim.Native.Nat.{ℕ, zero, suc, _+_}
 use mathlib.Core.Bool.{true, false, cond, _&&_}
 use mathlib.Core.List.{List}
 use lib.Dec.{leb, eqb}
 use lib.ListN.{getD, take}
-use Rattle.reading.specs.Readers.{Reader, run}
+use Rattle.reading.specs.Readers.{Reader, run, many}
 use Rattle.reading.specs.Walks.{Met, item, refused, Walked, walk}
 use Rattle.lexis.specs.declared.Class.the-variants.{Visible}
 use Rattle.lexis.specs.Bytes.{inClass}
+use Rattle.block.specs.Utf8.{sequence}
 
 -- 01, What the library is handed: 64 list entries of 1 to 255 bytes
 abbrev pub entryLimit : ℕ
@@ -17,9 +19,16 @@ entryLimit = 64
 abbrev pub longest : ℕ
 longest = 255
 
--- entries of bytes 33 to 126
+-- bytes 33 to 126
+abbrev pub visible : Reader
+visible = run (inClass Visible)
+
+-- entries of bytes 33 to 126; 02, ticket [2]: or valid UTF-8 from 128 up
+unfoldable pub entryItem : Reader
+entryItem xs = cond (inClass Visible (getD xs 0 0)) 1 (sequence xs)
+
 abbrev pub entryText : Reader
-entryText = run (inClass Visible)
+entryText = many entryItem 0
 
 -- each ended by LF: an entry with its LF; nothing where it is empty, over 255 bytes, holds another byte or lacks its LF
 unfoldable pub entry : Reader

@@ -19,6 +19,9 @@ ghost use Rattle.block.specs.Fields.{inLine, lineText, line, name, label
 ghost use Rattle.block.specs.OwnList.{entryText, entry, ownList};
 ghost use Rattle.block.specs.Steps.{freshWalk, nextAt, finished, freshEntries, listedAt, checkedOf};
 
+mod utf8;
+mod visible;
+
 // Where a walk over a block stands, and how many fields it has passed.
 pub struct Walk {
     pub at: usize,
@@ -251,49 +254,30 @@ pub enum Listed {
     Bad { place: usize },
 }
 
-// From 33 to 126.
-fn is_visible(b: u8) -> bool
-    ensures { λ r. ⌜ r ≡ inClass Class.Visible b ⌝ }
-{
-    if b < 33 {
-        return false;
-    }
-    b <= 126
-}
-
-// Whether one of n bytes is not visible, in the same way as `has_end`.
-fn has_other(s: &[u8], at: usize, n: usize) -> bool
-    requires { ⌜ at + n ≤ length (now s) ⌝ }
-    ensures { λ r. ⌜ (r ≡ false → Reaches entryText (now (s .entry)) at (at + n)) ⌝ }
-{
-    let mut hit = false;
-    let mut j: usize = 0;
-    while j < n {
-        if is_visible(s[at + j]) {
-            j += 1;
-        } else {
-            hit = true;
-            j += 1;
-        }
-    }
-    hit
-}
-
-// The end of the text of an entry: sixteen bytes at a time.
-fn entry_text(s: &[u8], at: usize) -> usize
+// The end of the text of an entry: each turn passes a run of visible bytes, and then a sequence of UTF-8.
+fn text_from(s: &[u8], at: usize) -> usize
     ensures { λ r. ⌜ r ≡ at + entryText (drop at (now (s .entry))) ⌝ }
 {
     let mut i = at;
     loop {
-        let r = reading::rest(s.len(), i);
-        if r < 16 {
-            return lexis::run_end(s, i, Class::Visible);
+        let e = lexis::run_end(s, i, Class::Visible);
+        let n = utf8::sequence_at(s, e);
+        if n == 0 {
+            return e;
         }
-        if has_other(s, i, 16) {
-            return lexis::run_end(s, i, Class::Visible);
-        }
-        i += 16;
+        i = e + n;
     }
+}
+
+// The same; an entry of ASCII alone ends with its first run.
+fn entry_text(s: &[u8], at: usize) -> usize
+    ensures { λ r. ⌜ r ≡ at + entryText (drop at (now (s .entry))) ⌝ }
+{
+    let e = visible::visible_end(s, at);
+    if reading::byte(s, e, 0) < 128 {
+        return e;
+    }
+    text_from(s, e)
 }
 
 // The end of an entry with its LF: the place itself where it is bad.

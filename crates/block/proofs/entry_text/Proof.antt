@@ -1,66 +1,24 @@
--- `block::entry_text` meets its contract: from each place of the loop the text of an entry ends where it ends from the first. Assumes nothing.
-use Prim.Native.Nat.{_-_}
-use native.Mathlib.Omega.{arith}
+-- `block::entry_text` meets its contract: a run of visible bytes ends the text where no byte from 128 up follows. Assumes nothing.
 use borrow.Author.Needs.{needs}
-use lib.ListN.{length}
-use Rattle.reading.specs.Places.{Reaches}
-use Rattle.reading.proofs.Loops.{reaches-start, reaches-found}
-use Rattle.lexis.specs.declared.Class.the-variants.{Visible}
-use Rattle.lexis.specs.Bytes.{inClass}
-use Rattle.block.specs.OwnList.{entryText}
-use Rattle.block.proofs.Lines.{text-on}
+use Rattle.block.proofs.Sequences.{text-plain, text-past}
 use Rattle.block.proofs.entry_text.Statement.{statement}
 use Rattle.block.proofs.entry_text.Tie as tie
 
-abbrev Inv-loop : tie.InvT-loop
-Inv-loop s at i₀ i = Reaches entryText s at i
+visible-end-requires : tie.Need-visible-end-requires
+visible-end-requires c κs = search needs
 
-abbrev μ-loop : tie.MeasureT-loop
-μ-loop s at i₀ i = length s - i
+byte-requires : tie.Need-byte-requires
+byte-requires c κs = search needs
 
-loop-holds : tie.Need-loop-holds Inv-loop μ-loop
-loop-holds c = reaches-start
+returns : tie.Need-returns
+returns c = search text-plain
 
-rest-requires : tie.Need-rest-requires Inv-loop μ-loop
-rest-requires c κs = search needs
+text-from-requires : tie.Need-text-from-requires
+text-from-requires c κs = search needs
 
-run-end-requires : tie.Need-run-end-requires Inv-loop μ-loop
-run-end-requires c κs = search needs
-
-returns : tie.Need-returns Inv-loop μ-loop
-returns c = search (reaches-found entryText)
-
-has-other-requires : tie.Need-has-other-requires Inv-loop μ-loop
-has-other-requires c κs = omega arith
-
-run-end-requires-2 : tie.Need-run-end-requires-2 Inv-loop μ-loop
-run-end-requires-2 c κs = search needs
-
-returns-2 : tie.Need-returns-2 Inv-loop μ-loop
-returns-2 c = search (reaches-found entryText)
-
-add-i : tie.Need-add-i Inv-loop μ-loop
-add-i c = omega arith
-
-loop-less : tie.Need-loop-less Inv-loop μ-loop
-loop-less c = omega arith
-
-loop-again : tie.Need-loop-again Inv-loop μ-loop
-loop-again c = search (text-on (inClass Visible))
+returns-2 : tie.Need-returns-2
+returns-2 c = search text-past
 
 pub entry-text-spec : {M : Type 1} → statement M
 entry-text-spec =
-    tie.close
-    (tie.spec
-    Inv-loop
-    μ-loop
-    loop-holds
-    rest-requires
-    run-end-requires
-    returns
-    has-other-requires
-    run-end-requires-2
-    returns-2
-    add-i
-    loop-less
-    loop-again)
+    tie.close (tie.spec visible-end-requires byte-requires returns text-from-requires returns-2)

@@ -1,9 +1,9 @@
--- `block::is_visible` meets its contract: by the two tests. Assumes nothing.
+-- `block::visible::is_visible` meets its contract: by the two tests. Assumes nothing.
 use borrow.Author.Tests.{le-leb, lt-leb}
 use Rattle.reading.specs.Texts.{within}
 use Rattle.lexis.specs.Bytes.{inClass}
-use Rattle.block.proofs.is_visible.Statement.{statement}
-use Rattle.block.proofs.is_visible.Tie as tie
+use Rattle.block.proofs.visible.is_visible.Statement.{statement}
+use Rattle.block.proofs.visible.is_visible.Tie as tie
 
 returns : tie.Need-returns
 unfolding inClass within
