@@ -1,4 +1,10 @@
+pub mod Tokens
 pub mod Identifiers
 pub mod Versions
-pub mod Listing
+pub mod Feeds
+pub mod OwnLists
+pub mod Spelt
+pub mod Whose
 pub mod Examples
+pub mod Parts
+pub mod Headlines

@@ -1,18 +1,24 @@
--- Document 01, "Identifier and header version": the identifier (RFC 8601, 2.2: authserv-id). Assumes nothing: these are definitions.
+-- Document 01, "Identifier and header version": the identifier (RFC 8601, 2.2: authserv-id); 02, ticket [2]: with international labels. Assumes
+-- nothing: these are definitions.
 use Prim.Native.Char.{code}
 use Prim.Native.Nat.{ℕ}
-use mathlib.Core.Bool.{Bool}
+use mathlib.Core.Bool.{Bool, _||_}
 use mathlib.Core.List.{List}
-use Rattle.reading.specs.Readers.{Reader, choose}
+use lib.Dec.{leb}
+use Rattle.reading.specs.Readers.{Reader, run, choose}
 use Rattle.reading.specs.Parsers.{Parser, _>>=_, _>>_, give, ahead, text}
-use Rattle.lexis.specs.declared.Class.the-variants.{Delimiter}
+use Rattle.lexis.specs.declared.Class.the-variants.{Token, Delimiter}
 use Rattle.lexis.specs.Bytes.{inClass, alike}
-use Rattle.lexis.specs.Pieces.{token, quoted}
+use Rattle.lexis.specs.Pieces.{quoted}
 use Rattle.lexis.specs.Words.{valueText, skip}
+use Rattle.punycode_rules.specs.Labels.{spelling}
 
--- the token of an identifier
+-- 02, ticket [2]: the identifier's token, and no other, may hold bytes from 128 up
+unfoldable pub identifierByte : ℕ → Bool
+identifierByte x = inClass Token x || leb 128 x
+
 abbrev pub identifierToken : Reader
-identifierToken = token
+identifierToken = run identifierByte
 
 -- its value: a quoted string or such a token
 abbrev pub identifierValue : Reader
@@ -26,6 +32,6 @@ identifier = do
   ahead (inClass Delimiter)
   give (valueText v)
 
--- Two identifiers are equal when their texts are equal but for ASCII case
+-- Two identifiers are equal when their texts are equal but for ASCII case; 02, ticket [2]: after A-labels became U-labels (RFC 8601, section 5)
 unfoldable pub sameIdentifier : List ℕ → List ℕ → Bool
-sameIdentifier a b = alike a b
+sameIdentifier a b = alike (spelling a) (spelling b)

@@ -9,9 +9,10 @@ ghost use Prim.Native.Nat.{_+_};
 ghost use lib.ListN.{drop};
 ghost use Rattle.reading.specs.Texts.{follows};
 ghost use Rattle.lexis.specs.Bytes.{inClass};
-ghost use Rattle.authserv.specs.Identifier.{identifierToken, sameIdentifier};
+ghost use Rattle.authserv.specs.Identifier.{identifierByte, identifierToken};
 ghost use Rattle.authserv.specs.Answers.{readable, identifierAt, versionAt};
 
+mod lines;
 pub mod own;
 
 // Where an identifier stands: from `start` up to `end`, with its quotes where it is quoted.
@@ -34,11 +35,40 @@ pub fn delimited(s: &[u8], at: usize) -> bool
     true
 }
 
-// The end of the token of an identifier.
+// Whether a byte may stand in the token of an identifier.
+fn in_identifier(b: u8) -> bool
+    ensures { λ r. ⌜ r ≡ identifierByte b ⌝ }
+{
+    if b >= 128 {
+        return true;
+    }
+    lexis::in_class(Class::Token, b)
+}
+
+// The end of the token of an identifier: one byte at a time.
+fn token_from(s: &[u8], at: usize) -> usize
+    ensures { λ r. ⌜ r ≡ at + identifierToken (drop at (now (s .entry))) ⌝ }
+{
+    let mut i = at;
+    while i < s.len() {
+        if in_identifier(s[i]) {
+            i += 1;
+        } else {
+            return i;
+        }
+    }
+    i
+}
+
+// The same; one of ASCII alone ends where any token does.
 fn identifier_token_end(s: &[u8], at: usize) -> usize
     ensures { λ r. ⌜ r ≡ at + identifierToken (drop at (now (s .entry))) ⌝ }
 {
-    lexis::token_end(s, at)
+    let e = lexis::token_end(s, at);
+    if reading::byte(s, e, 0) < 128 {
+        return e;
+    }
+    token_from(s, e)
 }
 
 // The value from a up to e, if there is one and it is delimited.
@@ -67,13 +97,6 @@ pub fn identify(body: &[u8]) -> Identifier
         return readable(body, a, lexis::quoted_end(body, a), true);
     }
     readable(body, a, identifier_token_end(body, a), false)
-}
-
-// Whether two identifiers are equal, by their texts.
-pub fn same_identifier(a: &[u8], b: &[u8]) -> bool
-    ensures { λ r. ⌜ r ≡ sameIdentifier (now (a .entry)) (now (b .entry)) ⌝ }
-{
-    lexis::text::same_text(a, b)
 }
 
 // The header version: the digits that count from `start` up to `end`, and whether their number is 1. Absent means 1.

@@ -4,26 +4,30 @@ use Prim.Native.Char.{code}
 use Prim.Native.Nat.{ℕ, suc, _+_}
 use native.Mathlib.Omega.{arith}
 use mathlib.Core.Path.{_≡_, refl, sym, ap, _∙_}
-use mathlib.Core.Bool.{false}
+use mathlib.Core.Bool.{Bool, true, false, _||_}
 use mathlib.Core.List.{List}
 use mathlib.Core.Option.{Option, some}
-use lib.ListN.{drop}
+use lib.Dec.{eqb}
+use lib.ListN.{drop, getD}
 use lib.Seq.{drop-drop}
 use Rattle.reading.specs.Parsers.{nothing, got, Parser, _>>=_, _>>_, give, ahead, text, optional}
-use Rattle.reading.specs.Locality.{Within, Any, Ends, Starts, Steady, Opens}
-use Rattle.reading.proofs.Local.{local-weaker, choose-local}
+use Rattle.reading.specs.Locality.{Fits, Within, Any, Ends, Starts, Steady, Opens}
+use Rattle.sequences.proofs.Booleans.{or-left, or-right}
+use Rattle.reading.proofs.Texts.{starts-first, starts-weaker}
+use Rattle.reading.proofs.Readers.{run-first, run-fits, choose-no, choose-fits}
+use Rattle.reading.proofs.Local.{local-weaker, choose-local, run-local}
 use Rattle.reading.proofs.Sequencing.{bind-got, bind-inv, give-is, give-inv, ahead-inv, optional-some}
 use Rattle.reading.proofs.Bounds.{within-weaker, bind-within, bind-within₂, give-within, ahead-within, text-within, optional-within}
 use Rattle.reading.proofs.Openings.{bind-opens, text-opens, opens-weaker, zero-front, bind-front, optional-front}
 use Rattle.reading.proofs.Steadiness.{steady-weaker, bind-steady, then-steady, zero-steady, map-steady, give-steady, ahead-steady, text-steady, optional-steady}
-use Rattle.lexis.specs.declared.Class.the-variants.{Delimiter, Digit, Token}
+use Rattle.lexis.specs.declared.Class.the-variants.{Delimiter, Digit}
 use Rattle.lexis.specs.Bytes.{inClass}
 use Rattle.lexis.specs.Pieces.{space, quoted, digits}
 use Rattle.lexis.specs.Words.{valueText, skip, gap, readDigits}
-use Rattle.lexis.proofs.Pieces.{value-fits}
-use Rattle.lexis.proofs.Locality.{quoted-local, token-local}
-use Rattle.lexis.proofs.Steadiness.{skip-within, skip-steady, gap-within, gap-steady, opensValue, value-first, digits-within, digits-opens, digits-steady}
-use Rattle.authserv.specs.Identifier.{identifierToken, identifierValue, identifier}
+use Rattle.lexis.proofs.Pieces.{quoted-fits}
+use Rattle.lexis.proofs.Locality.{quoted-local}
+use Rattle.lexis.proofs.Steadiness.{skip-within, skip-steady, gap-within, gap-steady, digits-within, digits-opens, digits-steady}
+use Rattle.authserv.specs.Identifier.{identifierByte, identifierToken, identifierValue, identifier}
 use Rattle.authserv.specs.Version.{stated}
 use Rattle.resinfo.specs.Results.{orOne}
 use Rattle.resinfo.proofs.Opened as resinfo
@@ -58,22 +62,39 @@ module _ {A : Type 0} (a : A) where
 
 -- ==== identifier
 
+-- a byte of an identifier's token, or a quote
+abbrev opensIdentifier : ℕ → Bool
+opensIdentifier b = identifierByte b || eqb b (code "\"")
+
+identifier-first : (xs : List ℕ) (n : ℕ) → identifierValue xs ≡ suc n → Starts opensIdentifier xs
+unfolding resinfo.opened identifierByte
+identifier-first xs n e = go (eqb (getD xs 0 0) 34) refl
+  where
+    go : (t : Bool) → eqb (getD xs 0 0) 34 ≡ t → Starts opensIdentifier xs
+    go true q = sym (starts-first opensIdentifier refl xs) ∙ or-right (identifierByte (getD xs 0 0)) _ q
+    go false q =
+        starts-weaker identifierByte opensIdentifier (λ b i. or-left (identifierByte b) _ i) xs
+        (run-first identifierByte xs n (sym (choose-no 34 quoted identifierToken xs q) ∙ e))
+
+identifier-fits : Fits identifierValue
+identifier-fits = choose-fits (code "\"") quoted identifierToken quoted-fits (run-fits identifierByte)
+
 identifier-value-solid : (xs : List ℕ) (n : ℕ) → identifierValue xs ≡ suc n → Ends space xs
-unfolding resinfo.opened
-identifier-value-solid xs n e = solid opensValue refl xs (value-first xs n e)
+unfolding resinfo.opened identifierByte
+identifier-value-solid xs n e = solid opensIdentifier refl xs (identifier-first xs n e)
 
 identifier-value-steady : Steady (text identifierValue) Delimited
-unfolding resinfo.opened
+unfolding resinfo.opened identifierByte
 identifier-value-steady =
-    steady-weaker (text identifierValue) (Ends identifierToken) Delimited (delimited-ends (inClass Token) refl)
+    steady-weaker (text identifierValue) (Ends identifierToken) Delimited (delimited-ends identifierByte refl)
     (text-steady identifierValue (Ends identifierToken)
-    (choose-local (code "\"") quoted identifierToken (Ends identifierToken) (local-weaker quoted Any (Ends identifierToken) (λ t g. tt) quoted-local) token-local))
+    (choose-local (code "\"") quoted identifierToken (Ends identifierToken) (local-weaker quoted Any (Ends identifierToken) (λ t g. tt) quoted-local) (run-local identifierByte)))
 
 pub identifier-within : Within 1 identifier
 unfolding identifier
 identifier-within =
     bind-within₂ 1 skip _ skip-within
-    (λ u. bind-within 1 (text identifierValue) (λ v. Then (valueText v)) (text-within identifierValue value-fits) (λ v. then-within (valueText v)))
+    (λ u. bind-within 1 (text identifierValue) (λ v. Then (valueText v)) (text-within identifierValue identifier-fits) (λ v. then-within (valueText v)))
 
 pub identifier-steady : Steady identifier Delimited
 unfolding identifier

@@ -1,6 +1,6 @@
 -- Every definition of a whole body and its report opened at once: `unfolding opened` lets a proof compute with all of them.
 -- Assumes nothing.
-use Rattle.authserv.specs.Identifier.{identifier}
+use Rattle.authserv.specs.Identifier.{identifierByte, identifier}
 use Rattle.authserv.specs.Version.{stated}
 use Rattle.resinfo.proofs.Opened as resinfo
 use Rattle.body.specs.Body as body
@@ -9,7 +9,7 @@ use Rattle.body.specs.Newer.{naming}
 use Rattle.body.specs.Beside.{sized, extent, around, beside, putIn}
 
 unfoldable pub opened : Unit {0}
-unfolding resinfo.opened identifier stated body.head body.resinfo body.resinfos body.wordNone body.payload body.headed body.reading
+unfolding resinfo.opened identifierByte identifier stated body.head body.resinfo body.resinfos body.wordNone body.payload body.headed body.reading
     plain escape line idLine versionLine noneLine methodLine reasonLine letterOf propertyLine propertyLines resultLines lines ignoredOf
     refusal fitted answer report naming sized extent around beside putIn
 opened = tt

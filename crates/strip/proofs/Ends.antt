@@ -4,7 +4,7 @@ use native.Mathlib.Omega.{arith}
 use mathlib.Core.Path.{_≡_, refl, sym, ap, _∙_}
 use mathlib.Core.Bool.{Bool, true, false}
 use mathlib.Core.List.{List, [], _∷_}
-use borrow.Author.Tests.{lt-ltb, ltb-false}
+use borrow.Author.Tests.{lt-ltb, le-ltb}
 use lib.Dec.{ltb, leb}
 use lib.ListN.{length, take}
 use lib.Seq.{sets}
@@ -17,10 +17,15 @@ use Rattle.block.specs.Fields.{Field, fields, bytesOf}
 use Rattle.block.specs.OwnList.{entryLimit, entry, entryAt, ownList}
 use Rattle.block.specs.Steps.{checkedOf}
 use Rattle.block.proofs.Fields.{fields-fine, walk-back}
+use Rattle.punycode_rules.specs.Labels.{doubleHyphen}
+use Rattle.authserv.specs.Spelled.{spelledList, linesOf, amongSpelled}
+use Rattle.authserv.proofs.OwnLists.{list-among}
+use Rattle.authserv.proofs.Headlines.{list-plain}
 use Rattle.strip.specs.declared.Stripped.{Stripped}
-use Rattle.strip.specs.Strip.{refuse, stays, fitted, unless, strip}
+use Rattle.strip.specs.Strip.{Answer, refuse, gone, stays, done, fitted, unless, sifted, strip}
 use Rattle.strip.specs.Answers.{Sifted, answerOf, leaves}
-use Rattle.strip.proofs.Laws.{strip-to, strip-is}
+use Rattle.strip.proofs.Laws.{Listed}
+use Rattle.strip.proofs.Alike.{same-sifted}
 
 -- the list's answer is 0 or 5
 walk-five : (at count k : ℕ) (xs : List ℕ) (n : ℕ) → walk entryAt at count k xs .number ≡ suc n → suc n ≡ 5
@@ -57,10 +62,10 @@ fields-place s z =
     ap (λ (v : Walked Field). v .place) b
 
 -- the kept fields that went to a buffer with room for all of them, copied to another one
-pub copied : (s list old first new : List ℕ) (m : Stripped) → Sifted s list first new m → m .kept ≤ length first → (out : List ℕ) (n : ℕ)
-    → Put old 0 (take (m .kept) new) out n → Sifted s list old out m
-copied s list old first new m k h out n p =
-    let text = bytesOf (stays (ownList list .items) (fields s .items)) in
+pub copied : (s : List ℕ) (listed : List ℕ → Bool) (old first new : List ℕ) (m : Stripped) → Sifted s listed first new m → m .kept ≤ length first → (out : List ℕ) (n : ℕ)
+    → Put old 0 (take (m .kept) new) out n → Sifted s listed old out m
+copied s listed old first new m k h out n p =
+    let text = bytesOf (stays listed (fields s .items)) in
     let t : take (m .kept) new ≡ text = put-front {old = first} {text = text} (record { count = wrote-count (k .wrote); bytes = k .wrote .bytes }) h in
     record {
       number = k .number;
@@ -71,57 +76,91 @@ copied s list old first new m k h out n p =
     }
 
 -- an answer, and what it leaves
-abbrev pub Answered : List ℕ → List ℕ → List ℕ → List ℕ → Stripped → Type 0
-Answered s list old new r = (r ≡ answerOf (strip s list (length old))) × (new ≡ leaves (strip s list (length old)) old)
+abbrev pub Answered : Answer → List ℕ → List ℕ → Stripped → Type 0
+Answered a old new r = (r ≡ answerOf a) × (new ≡ leaves a old)
+
+refused : (a : Answer) (old : List ℕ) (r : Stripped) (n p : ℕ) → r ≡ record { number = n; place = p; kept = 0; removed = 0; fields = 0 } → a ≡ refuse n p → Answered a old old r
+refused a old r n p e q = (rw q e, rw q)
+
+-- ==== behind the list
+
+module _ (s : List ℕ) (listed : List ℕ → Bool) (old : List ℕ) (r m : Stripped) (first new : List ℕ) (k : Sifted s listed first new m) where
+  pub answer-2-4 : (m .number ≡ 0 → ⊥) → r ≡ record { number = m .number; place = m .place; kept = 0; removed = 0; fields = 0 }
+      → Answered (sifted s listed (length old)) old old r
+  unfolding sifted
+  answer-2-4 ne e = go (m .number) refl
+    where
+      go : (n : ℕ) → m .number ≡ n → Answered (sifted s listed (length old)) old old r
+      go zero z = absurd (ne z)
+      go (suc n) z =
+          let f : fields s .number ≡ suc n = sym (k .number) ∙ z in
+          refused (sifted s listed (length old)) old r (m .number) (m .place) e (rw (sifted, unless, f, z, k .place))
+
+  module _ (z : m .number ≡ 0) where
+    sound : fields s .number ≡ 0
+    sound = sym (k .number) ∙ z
+
+    needed : m .kept ≡ length (bytesOf (stays listed (fields s .items)))
+    needed = wrote-count (k .wrote)
+
+    pub answer-6 : length old < m .kept → r ≡ record { number = 6; place = m .kept; kept = 0; removed = 0; fields = 0 } → Answered (sifted s listed (length old)) old old r
+    unfolding sifted fitted
+    answer-6 l e =
+        let t : ltb (length old) (length (bytesOf (stays listed (fields s .items)))) ≡ true = lt-ltb _ _ (rw needed at l) in
+        refused (sifted s listed (length old)) old r 6 (m .kept) e (rw (sifted, unless, sound, fitted, t, needed))
+
+    pub answer-0 : m .kept ≤ length old → (out : List ℕ) → Sifted s listed old out r → Answered (sifted s listed (length old)) old out r
+    unfolding sifted fitted
+    answer-0 l out d =
+        let fits : length (bytesOf (stays listed (fields s .items))) ≤ length old = rw needed at l in
+        let t : ltb (length old) (length (bytesOf (stays listed (fields s .items)))) ≡ false = le-ltb _ _ fits in
+        let is : sifted s listed (length old) ≡ done (stays listed (fields s .items)) (gone listed (fields s .items)) = rw (sifted, unless, sound, fitted, t) in
+        (rw is (same r _ _ _ _ _ (d .number ∙ sound) (d .place ∙ fields-place s sound) (wrote-count (d .wrote)) (d .removed) (d .fields)), rw is (wrote-front (d .wrote) fits))
+      where
+        same : (r : Stripped) (n p k q f : ℕ) → r .number ≡ n → r .place ≡ p → r .kept ≡ k → r .removed ≡ q → r .fields ≡ f
+            → r ≡ record { number = n; place = p; kept = k; removed = q; fields = f }
+        same r n p k q f e₀ e₁ e₂ e₃ e₄ = rw (← e₀, ← e₁, ← e₂, ← e₃, ← e₄)
+
+-- by the list as it was spelled into a buffer
+pub answer-spelled : (s list old new : List ℕ) (r : Stripped) (first own : List ℕ) (n : ℕ) → Put first 0 (spelledList (ownList list .items)) own n → n ≤ length first
+    → Answered (sifted s (amongSpelled (linesOf (take n own))) (length old)) old new r → Answered (sifted s (Listed list) (length old)) old new r
+answer-spelled s list old new r first own n w h a =
+    let f : take n own ≡ spelledList (ownList list .items) = put-front w h in
+    let e : sifted s (amongSpelled (linesOf (take n own))) (length old) ≡ sifted s (Listed list) (length old) =
+    rw f (same-sifted (amongSpelled (linesOf (spelledList (ownList list .items)))) (Listed list) (list-among list) s (length old)) in
+    (a .0 ∙ ap answerOf e, a .1 ∙ ap (λ (x : Answer). leaves x old) e)
+
+-- ==== the whole
 
 module _ (s list old : List ℕ) (r : Stripped) (big : Bool) (b : big ≡ ltb byteLimit (length s)) where
-  refused : (n p : ℕ) → r ≡ record { number = n; place = p; kept = 0; removed = 0; fields = 0 } → strip s list (length old) ≡ refuse n p → Answered s list old old r
-  refused n p e q = (rw q e, rw q)
-
-  pub answer-1 : big ≡ true → r ≡ record { number = 1; place = 0; kept = 0; removed = 0; fields = 0 } → Answered s list old old r
+  pub answer-1 : big ≡ true → r ≡ record { number = 1; place = 0; kept = 0; removed = 0; fields = 0 } → Answered (strip s list (length old)) old old r
   unfolding strip
-  answer-1 h e = refused 1 0 e (let t : ltb byteLimit (length s) ≡ true = sym b ∙ h in rw (strip, t))
+  answer-1 h e = refused (strip s list (length old)) old r 1 0 e (let t : ltb byteLimit (length s) ≡ true = sym b ∙ h in rw (strip, t))
 
   module _ (h : big ≡ false) where
     small : ltb byteLimit (length s) ≡ false
     small = sym b ∙ h
 
-    pub answer-5 : (p : ℕ) → Bad p ≡ checkedOf (ownList list) → r ≡ record { number = 5; place = p; kept = 0; removed = 0; fields = 0 } → Answered s list old old r
+    pub answer-5 : (p : ℕ) → Bad p ≡ checkedOf (ownList list) → r ≡ record { number = 5; place = p; kept = 0; removed = 0; fields = 0 }
+        → Answered (strip s list (length old)) old old r
     unfolding strip
     answer-5 p q e =
         let f = bad-five list p q in
-        refused 5 p e (rw (strip, small, unless, f .0, f .1))
+        refused (strip s list (length old)) old r 5 p e (rw (strip, small, unless, f .0, f .1))
 
-    module _ (g : Good ≡ checkedOf (ownList list)) (m : Stripped) (first new : List ℕ) (k : Sifted s list first new m) where
-      pub answer-2-4 : (m .number ≡ 0 → ⊥) → r ≡ record { number = m .number; place = m .place; kept = 0; removed = 0; fields = 0 } → Answered s list old old r
+    module _ (g : Good ≡ checkedOf (ownList list)) (new : List ℕ) where
+      behind : strip s list (length old) ≡ sifted s (Listed list) (length old)
       unfolding strip
-      answer-2-4 ne e = go (m .number) refl
-        where
-          go : (n : ℕ) → m .number ≡ n → Answered s list old old r
-          go zero z = absurd (ne z)
-          go (suc n) z =
-              let f : fields s .number ≡ suc n = sym (k .number) ∙ z in
-              refused (m .number) (m .place) e (rw (strip, small, unless, good-zero list g, unless, f, z, k .place))
+      behind = rw (strip, small, unless, good-zero list g)
 
-      module _ (z : m .number ≡ 0) where
-        sound : fields s .number ≡ 0
-        sound = sym (k .number) ∙ z
+      pub answer-listed : Answered (sifted s (Listed list) (length old)) old new r → Answered (strip s list (length old)) old new r
+      answer-listed a = (rw behind (a .0), rw behind (a .1))
 
-        needed : m .kept ≡ length (bytesOf (stays (ownList list .items) (fields s .items)))
-        needed = wrote-count (k .wrote)
-
-        pub answer-6 : length old < m .kept → r ≡ record { number = 6; place = m .kept; kept = 0; removed = 0; fields = 0 } → Answered s list old old r
-        unfolding fitted
-        answer-6 l e =
-            let t : ltb (length old) (length (bytesOf (stays (ownList list .items) (fields s .items)))) ≡ true = lt-ltb _ _ (rw needed at l) in
-            refused 6 (m .kept) e (strip-to s list (length old) small (good-zero list g) sound ∙ rw (fitted, t, needed))
-
-        pub answer-0 : m .kept ≤ length old → (out : List ℕ) → Sifted s list old out r → Answered s list old out r
-        answer-0 l out d =
-            let fits : length (bytesOf (stays (ownList list .items) (fields s .items))) ≤ length old = rw needed at l in
-            let is = strip-is s list (length old) (ltb-false byteLimit (length s) small) (good-zero list g) sound fits in
-            (rw is (same r _ _ _ _ _ (d .number ∙ sound) (d .place ∙ fields-place s sound) (wrote-count (d .wrote)) (d .removed) (d .fields)), rw is (wrote-front (d .wrote) fits))
-          where
-            same : (r : Stripped) (n p k q f : ℕ) → r .number ≡ n → r .place ≡ p → r .kept ≡ k → r .removed ≡ q → r .fields ≡ f
-                → r ≡ record { number = n; place = p; kept = k; removed = q; fields = f }
-            same r n p k q f e₀ e₁ e₂ e₃ e₄ = rw (← e₀, ← e₁, ← e₂, ← e₃, ← e₄)
+      -- a list without two hyphens in a row is compared as it stands
+      pub answer-plain : (t : Bool) → t ≡ doubleHyphen list → t ≡ false → Answered (sifted s (amongSpelled (linesOf list)) (length old)) old new r
+          → Answered (strip s list (length old)) old new r
+      answer-plain t e z a =
+          let l : spelledList (ownList list .items) ≡ list = list-plain list (good-zero list g) (sym e ∙ z) in
+          let q : sifted s (amongSpelled (linesOf list)) (length old) ≡ sifted s (Listed list) (length old) =
+          same-sifted (amongSpelled (linesOf list)) (Listed list) (λ i. rw l at (list-among list i)) s (length old) in
+          answer-listed (a .0 ∙ ap answerOf q, a .1 ∙ ap (λ (x : Answer). leaves x old) q)

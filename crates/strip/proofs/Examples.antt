@@ -6,11 +6,10 @@ use Rattle.reading.specs.Texts.{bytes}
 use Rattle.reading.proofs.Cases.{case, Says}
 use Rattle.block.proofs.Examples as block
 use Rattle.authserv.proofs.Examples as authserv
-use Rattle.authserv.specs.Listed.{among}
-use Rattle.strip.specs.Strip.{disowned, goes, Answer, refuse, fitted, strip}
+use Rattle.strip.specs.Strip.{disowned, goes, Answer, refuse, fitted, sifted, strip}
 
 unfoldable opened : Unit {0}
-unfolding block.opened authserv.opened among disowned goes fitted strip
+unfolding block.opened authserv.opened disowned goes fitted sifted strip
 opened = tt
 
 abbrev stripped : List ℕ → Answer

@@ -8,7 +8,8 @@ use Rattle.reading.specs.Parsers.{Got, nothing, got}
 use Rattle.lexis.specs.Bytes.{alike}
 use Rattle.authserv.specs.declared.own.Own.{Own}
 use Rattle.authserv.specs.Identifier.{identifier}
-use Rattle.authserv.specs.Listed.{among, ownIf, ownOf}
+use Rattle.authserv.specs.Listed.{ownIf}
+use Rattle.authserv.specs.Spelled.{amongSpelled, ownOfSpelled}
 use Rattle.strip.specs.Strip.{disowned}
 use Rattle.strip.specs.Answers.{isDisowned}
 
@@ -17,17 +18,18 @@ if-disowned true = refl
 if-disowned false = refl
 
 -- ours and unreadable ones go, others stay
-pub whose-disowned : (entries : List (List ℕ)) (body : List ℕ) (o : Own) → o ≡ ownOf entries (identifier body) → (r : Bool) → r ≡ isDisowned o → r ≡ disowned entries body
+pub whose-disowned : (lines : List (List ℕ)) (body : List ℕ) (o : Own) → o ≡ ownOfSpelled lines (identifier body) → (r : Bool) → r ≡ isDisowned o
+    → r ≡ disowned (amongSpelled lines) body
 unfolding disowned
-whose-disowned entries body o h r e = e ∙ (ap isDisowned h ∙ go (identifier body) refl)
+whose-disowned lines body o h r e = e ∙ (ap isDisowned h ∙ go (identifier body) refl)
   where
-    go : (g : Got (List ℕ)) → identifier body ≡ g → isDisowned (ownOf entries (identifier body)) ≡ disowned entries body
+    go : (g : Got (List ℕ)) → identifier body ≡ g → isDisowned (ownOfSpelled lines (identifier body)) ≡ disowned (amongSpelled lines) body
     go nothing q = rw (disowned, q)
-    go (got i n) q = rw (disowned, q) (if-disowned (among entries i))
+    go (got i n) q = rw (disowned, q) (if-disowned (amongSpelled lines i))
 
-module _ (entries : List (List ℕ)) (name body : List ℕ) (r : Bool) (h : r ≡ alike name (bytes "Authentication-Results")) where
-  pub other-name : r ≡ false → false ≡ (alike name (bytes "Authentication-Results") && disowned entries body)
+module _ (listed : List ℕ → Bool) (name body : List ℕ) (r : Bool) (h : r ≡ alike name (bytes "Authentication-Results")) where
+  pub other-name : r ≡ false → false ≡ (alike name (bytes "Authentication-Results") && disowned listed body)
   other-name t = rw (← h, t)
 
-  pub this-name : r ≡ true → (q : Bool) → q ≡ disowned entries body → q ≡ (alike name (bytes "Authentication-Results") && disowned entries body)
+  pub this-name : r ≡ true → (q : Bool) → q ≡ disowned listed body → q ≡ (alike name (bytes "Authentication-Results") && disowned listed body)
   this-name t q e = rw (← h, t) e

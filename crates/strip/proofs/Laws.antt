@@ -11,37 +11,42 @@ use lib.ListN.{length}
 use Rattle.lexis.specs.Limits.{byteLimit}
 use Rattle.block.specs.Fields.{Field, fields, bytesOf}
 use Rattle.block.specs.OwnList.{ownList}
-use Rattle.strip.specs.Strip.{gone, stays, done, fitted, unless, strip}
+use Rattle.authserv.specs.Listed.{among}
+use Rattle.strip.specs.Strip.{gone, stays, done, fitted, unless, sifted, strip}
+
+-- which identifiers a list has
+abbrev pub Listed : List ℕ → List ℕ → Bool
+Listed list = among (ownList list .items)
 
 -- what is known of a block that is stripped
 pub record Sound (block list : List ℕ) (room : ℕ) : Type 0 where
   pub small : length block ≤ byteLimit
   pub listed : ownList list .number ≡ 0
   pub fielded : fields block .number ≡ 0
-  pub roomy : length (bytesOf (stays (ownList list .items) (fields block .items))) ≤ room
-  pub is : strip block list room ≡ done (stays (ownList list .items) (fields block .items)) (gone (ownList list .items) (fields block .items))
+  pub roomy : length (bytesOf (stays (Listed list) (fields block .items))) ≤ room
+  pub is : strip block list room ≡ done (stays (Listed list) (fields block .items)) (gone (Listed list) (fields block .items))
 
 module _ (block list : List ℕ) (room : ℕ) where
   pub strip-to : ltb byteLimit (length block) ≡ false → ownList list .number ≡ 0 → fields block .number ≡ 0
-      → strip block list room ≡ fitted (stays (ownList list .items) (fields block .items)) (gone (ownList list .items) (fields block .items)) room
-  unfolding strip
-  strip-to a b c = rw (strip, a, unless, b, unless, c)
+      → strip block list room ≡ fitted (stays (Listed list) (fields block .items)) (gone (Listed list) (fields block .items)) room
+  unfolding strip sifted
+  strip-to a b c = rw (strip, a, unless, b, sifted, unless, c)
 
   fitted-to : (k g : List Field) → ltb room (length (bytesOf k)) ≡ false → fitted k g room ≡ done k g
   unfolding fitted
   fitted-to k g d = rw (fitted, d)
 
   pub strip-is : length block ≤ byteLimit → ownList list .number ≡ 0 → fields block .number ≡ 0
-      → length (bytesOf (stays (ownList list .items) (fields block .items))) ≤ room
-      → strip block list room ≡ done (stays (ownList list .items) (fields block .items)) (gone (ownList list .items) (fields block .items))
+      → length (bytesOf (stays (Listed list) (fields block .items))) ≤ room
+      → strip block list room ≡ done (stays (Listed list) (fields block .items)) (gone (Listed list) (fields block .items))
   strip-is a b c d = strip-to (le-ltb byteLimit (length block) a) b c ∙ fitted-to _ _ (le-ltb room _ d)
 
   pub strip-sound : strip block list room .number ≡ 0 → Sound block list room
-  unfolding strip fitted
+  unfolding strip sifted fitted
   strip-sound z = big (ltb byteLimit (length block)) refl
     where
       full : ltb byteLimit (length block) ≡ false → ownList list .number ≡ 0 → fields block .number ≡ 0
-          → (t : Bool) → ltb room (length (bytesOf (stays (ownList list .items) (fields block .items)))) ≡ t → Sound block list room
+          → (t : Bool) → ltb room (length (bytesOf (stays (Listed list) (fields block .items)))) ≡ t → Sound block list room
       full a b c true d = absurd (let o : 6 ≡ 0 = rw (strip-to a b c, fitted, d) at z in omega arith)
       full a b c false d =
           record {
@@ -53,8 +58,8 @@ module _ (block list : List ℕ) (room : ℕ) where
           }
 
       cut : ltb byteLimit (length block) ≡ false → ownList list .number ≡ 0 → (n : ℕ) → fields block .number ≡ n → Sound block list room
-      cut a b zero c = full a b c (ltb room (length (bytesOf (stays (ownList list .items) (fields block .items))))) refl
-      cut a b (suc n) c = absurd (let o : suc n ≡ 0 = rw (strip, a, unless, b, unless, c) at z in omega arith)
+      cut a b zero c = full a b c (ltb room (length (bytesOf (stays (Listed list) (fields block .items))))) refl
+      cut a b (suc n) c = absurd (let o : suc n ≡ 0 = rw (strip, a, unless, b, sifted, unless, c) at z in omega arith)
 
       own : ltb byteLimit (length block) ≡ false → (n : ℕ) → ownList list .number ≡ n → Sound block list room
       own a zero b = cut a b (fields block .number) refl

@@ -14,7 +14,6 @@ use Rattle.lexis.specs.Bytes.{alike}
 use Rattle.block.specs.declared.Next.the-variants.{Field, End, Refused}
 use Rattle.block.specs.Fields as blocks
 use Rattle.block.specs.Fields.{named, bodyOf, bytesOf, those}
-use Rattle.block.specs.OwnList.{ownList}
 use Rattle.block.specs.Steps.{nextFrom}
 use Rattle.block.proofs.Fields.{those-yes, those-no}
 use Rattle.block.proofs.Steps.{Rest, fieldFrom, Cut, step-field, step-end, step-refused, part-bytes, part-name, part-body}
@@ -22,38 +21,35 @@ use Rattle.strip.specs.Strip.{disowned, goes, stays, gone}
 use Rattle.strip.specs.Answers.{Sifted}
 
 -- a field that goes, and one that stays
-module _ (own : List (List ℕ)) (f : blocks.Field) (fs : List blocks.Field) where
-  gone-yes : goes own f ≡ true → gone own (f ∷ fs) ≡ f ∷ gone own fs
-  gone-yes e = those-yes (goes own) f fs e
+module _ (listed : List ℕ → Bool) (f : blocks.Field) (fs : List blocks.Field) where
+  gone-yes : goes listed f ≡ true → gone listed (f ∷ fs) ≡ f ∷ gone listed fs
+  gone-yes e = those-yes (goes listed) f fs e
 
-  stays-yes : goes own f ≡ true → stays own (f ∷ fs) ≡ stays own fs
-  stays-yes e = those-no (λ g. not (goes own g)) f fs (false-not (goes own f) e)
+  stays-yes : goes listed f ≡ true → stays listed (f ∷ fs) ≡ stays listed fs
+  stays-yes e = those-no (λ g. not (goes listed g)) f fs (false-not (goes listed f) e)
 
-  gone-no : goes own f ≡ false → gone own (f ∷ fs) ≡ gone own fs
-  gone-no e = those-no (goes own) f fs e
+  gone-no : goes listed f ≡ false → gone listed (f ∷ fs) ≡ gone listed fs
+  gone-no e = those-no (goes listed) f fs e
 
-  stays-no : goes own f ≡ false → stays own (f ∷ fs) ≡ f ∷ stays own fs
-  stays-no e = those-yes (λ g. not (goes own g)) f fs (true-not (goes own f) e)
-
-abbrev pub Own : List ℕ → List (List ℕ)
-Own list = ownList list .items
+  stays-no : goes listed f ≡ false → stays listed (f ∷ fs) ≡ f ∷ stays listed fs
+  stays-no e = those-yes (λ g. not (goes listed g)) f fs (true-not (goes listed f) e)
 
 abbrev pub All : List ℕ → List blocks.Field
 All s = blocks.fields s .items
 
 -- the loop stands at a place, after so many fields: what is left answers as the whole
-pub record Sifting (s list old out : List ℕ) (at count kept removed fields : ℕ) : Type 0 where
+pub record Sifting (s : List ℕ) (listed : List ℕ → Bool) (old out : List ℕ) (at count kept removed fields : ℕ) : Type 0 where
   pub number : Rest s at count .number ≡ blocks.fields s .number
   pub place : Rest s at count .place ≡ blocks.fields s .place
-  pub left : Left old 0 (bytesOf (stays (Own list) (All s))) out kept (bytesOf (stays (Own list) (Rest s at count .items)))
-  pub taken : removed + length (bytesOf (gone (Own list) (Rest s at count .items))) ≡ length (bytesOf (gone (Own list) (All s)))
-  pub some : fields + length (gone (Own list) (Rest s at count .items)) ≡ length (gone (Own list) (All s))
+  pub left : Left old 0 (bytesOf (stays listed (All s))) out kept (bytesOf (stays listed (Rest s at count .items)))
+  pub taken : removed + length (bytesOf (gone listed (Rest s at count .items))) ≡ length (bytesOf (gone listed (All s)))
+  pub some : fields + length (gone listed (Rest s at count .items)) ≡ length (gone listed (All s))
   pub inside : at ≤ length s
   pub small : kept + removed ≤ at
   pub few : fields ≤ at
 
-pub sift-start : (s list old : List ℕ) → Sifting s list old old 0 0 0 0 0
-sift-start s list old =
+pub sift-start : (s : List ℕ) (listed : List ℕ → Bool) (old : List ℕ) → Sifting s listed old old 0 0 0 0 0
+sift-start s listed old =
     record {
       number = refl;
       place = refl;
@@ -65,9 +61,9 @@ sift-start s list old =
       few = omega arith;
     }
 
-module _ (s list old out : List ℕ) (at count kept removed fields : ℕ) (w : Sifting s list old out at count kept removed fields) where
+module _ (s : List ℕ) (listed : List ℕ → Bool) (old out : List ℕ) (at count kept removed fields : ℕ) (w : Sifting s listed old out at count kept removed fields) where
   sift-ended : (n p : ℕ) → Rest s at count ≡ record { items = []; number = n; place = p }
-      → Sifted s list old out (record { number = n; place = p; kept = kept; removed = removed; fields = fields })
+      → Sifted s listed old out (record { number = n; place = p; kept = kept; removed = removed; fields = fields })
   unfolding those bytesOf
   sift-ended n p e =
       record {
@@ -78,11 +74,11 @@ module _ (s list old out : List ℕ) (at count kept removed fields : ℕ) (w : S
         fields = let z = rw e at (w .some) in omega (arith, z);
       }
 
-  pub sift-end : End ≡ nextFrom at count (drop at s) → Sifted s list old out (record { number = 0; place = 0; kept = kept; removed = removed; fields = fields })
+  pub sift-end : End ≡ nextFrom at count (drop at s) → Sifted s listed old out (record { number = 0; place = 0; kept = kept; removed = removed; fields = fields })
   sift-end e = sift-ended 0 0 (step-end s at count e)
 
   pub sift-refused : (n p : ℕ) → Refused n p ≡ nextFrom at count (drop at s)
-      → Sifted s list old out (record { number = n; place = p; kept = kept; removed = removed; fields = fields })
+      → Sifted s listed old out (record { number = n; place = p; kept = kept; removed = removed; fields = fields })
   sift-refused n p e = sift-ended n p (step-refused s at count n p e)
 
   module _ (a n b e : ℕ) (q : Field a n b e ≡ nextFrom at count (drop at s)) where
@@ -92,47 +88,47 @@ module _ (s list old out : List ℕ) (at count kept removed fields : ℕ) (w : S
     pub bytes-long : length (take (e - a) (drop a s)) ≡ e - a
     bytes-long = let c = cut in part-bytes s a n b e (c .named) (c .labelled) (c .bodied) (c .inside)
 
-    going : goes (Own list) (fieldFrom s a n b e) ≡ (alike (take (n - a) (drop a s)) (bytes "Authentication-Results") && disowned (Own list) (take (e - 2 - b) (drop b s)))
+    going : goes listed (fieldFrom s a n b e) ≡ (alike (take (n - a) (drop a s)) (bytes "Authentication-Results") && disowned listed (take (e - 2 - b) (drop b s)))
     unfolding goes named
     going =
         let c = cut in
         let x = part-name s a n b e (c .named) (c .labelled) (c .bodied) (c .inside) in
         let y = part-body s a n b e (c .named) (c .labelled) (c .bodied) (c .inside) in
-        ap (λ (t : List ℕ). alike t (bytes "Authentication-Results") && disowned (Own list) (bodyOf (fieldFrom s a n b e))) x
-        ∙ ap (λ (t : List ℕ). alike (take (n - a) (drop a s)) (bytes "Authentication-Results") && disowned (Own list) t) y
+        ap (λ (t : List ℕ). alike t (bytes "Authentication-Results") && disowned listed (bodyOf (fieldFrom s a n b e))) x
+        ∙ ap (λ (t : List ℕ). alike (take (n - a) (drop a s)) (bytes "Authentication-Results") && disowned listed t) y
 
-    module _ (r : Bool) (h : r ≡ (alike (take (n - a) (drop a s)) (bytes "Authentication-Results") && disowned (Own list) (take (e - 2 - b) (drop b s)))) where
-      pub sift-gone : r ≡ true → Sifting s list old out e (count + 1) kept (removed + (e - a)) (fields + 1)
+    module _ (r : Bool) (h : r ≡ (alike (take (n - a) (drop a s)) (bytes "Authentication-Results") && disowned listed (take (e - 2 - b) (drop b s)))) where
+      pub sift-gone : r ≡ true → Sifting s listed old out e (count + 1) kept (removed + (e - a)) (fields + 1)
       unfolding bytesOf
       sift-gone z =
           let c = cut in
-          let g : goes (Own list) (fieldFrom s a n b e) ≡ true = going ∙ sym h ∙ z in
+          let g : goes listed (fieldFrom s a n b e) ≡ true = going ∙ sym h ∙ z in
           let fs = Rest s e (count + 1) .items in
-          let t = rw (c .more, gone-yes (Own list) (fieldFrom s a n b e) fs g) at (w .taken) in
-          let u = rw (c .more, gone-yes (Own list) (fieldFrom s a n b e) fs g) at (w .some) in
+          let t = rw (c .more, gone-yes listed (fieldFrom s a n b e) fs g) at (w .taken) in
+          let u = rw (c .more, gone-yes listed (fieldFrom s a n b e) fs g) at (w .some) in
           record {
             number = rw (c .more) at (w .number);
             place = rw (c .more) at (w .place);
-            left = rw (c .more, stays-yes (Own list) (fieldFrom s a n b e) fs g) at (w .left);
-            taken = omega (arith, t, bytes-long, length-append (take (e - a) (drop a s)) (bytesOf (gone (Own list) fs)));
+            left = rw (c .more, stays-yes listed (fieldFrom s a n b e) fs g) at (w .left);
+            taken = omega (arith, t, bytes-long, length-append (take (e - a) (drop a s)) (bytesOf (gone listed fs)));
             some = omega (arith, u);
             inside = c .inside;
             small = omega (arith, w .small, c .start, c .named, c .labelled, c .bodied);
             few = omega (arith, w .few, c .start, c .named, c .labelled, c .bodied);
           }
 
-      pub sift-kept : r ≡ false → (out′ : List ℕ) (m : ℕ) → Put out kept (take (e - a) (drop a s)) out′ m → Sifting s list old out′ e (count + 1) (kept + m) removed fields
+      pub sift-kept : r ≡ false → (out′ : List ℕ) (m : ℕ) → Put out kept (take (e - a) (drop a s)) out′ m → Sifting s listed old out′ e (count + 1) (kept + m) removed fields
       unfolding bytesOf
       sift-kept z out′ m v =
           let c = cut in
-          let g : goes (Own list) (fieldFrom s a n b e) ≡ false = going ∙ sym h ∙ z in
+          let g : goes listed (fieldFrom s a n b e) ≡ false = going ∙ sym h ∙ z in
           let fs = Rest s e (count + 1) .items in
           record {
             number = rw (c .more) at (w .number);
             place = rw (c .more) at (w .place);
-            left = left-step (rw (c .more, stays-no (Own list) (fieldFrom s a n b e) fs g) at (w .left)) refl (put-wrote v);
-            taken = rw (c .more, gone-no (Own list) (fieldFrom s a n b e) fs g) at (w .taken);
-            some = rw (c .more, gone-no (Own list) (fieldFrom s a n b e) fs g) at (w .some);
+            left = left-step (rw (c .more, stays-no listed (fieldFrom s a n b e) fs g) at (w .left)) refl (put-wrote v);
+            taken = rw (c .more, gone-no listed (fieldFrom s a n b e) fs g) at (w .taken);
+            some = rw (c .more, gone-no listed (fieldFrom s a n b e) fs g) at (w .some);
             inside = c .inside;
             small = omega (arith, v .count, bytes-long, w .small, c .start, c .named, c .labelled, c .bodied);
             few = omega (arith, w .few, c .start, c .named, c .labelled, c .bodied);

@@ -6,7 +6,6 @@ use mathlib.Core.List.{List, _++_}
 use lib.ListN.{length, drop}
 use Rattle.sequences.specs.Stored.{Wrote}
 use Rattle.block.specs.Fields.{fields, bytesOf}
-use Rattle.block.specs.OwnList.{ownList}
 use Rattle.authserv.specs.declared.own.Own.{Own}
 use Rattle.authserv.specs.declared.own.Own.the-variants as own
 use Rattle.strip.specs.declared.Stripped.{Stripped}
@@ -28,9 +27,9 @@ isDisowned own.Others = false
 isDisowned own.Unreadable = true
 
 -- the kept fields up to the first refusal are written, and the refusal and the sums are returned
-pub record Sifted (s list old new : List ℕ) (r : Stripped) : Type 0 where
+pub record Sifted (s : List ℕ) (listed : List ℕ → Bool) (old new : List ℕ) (r : Stripped) : Type 0 where
   pub number : r .number ≡ fields s .number
   pub place : r .place ≡ fields s .place
-  pub wrote : Wrote old 0 (bytesOf (stays (ownList list .items) (fields s .items))) new (r .kept)
-  pub removed : r .removed ≡ length (bytesOf (gone (ownList list .items) (fields s .items)))
-  pub fields : r .fields ≡ length (gone (ownList list .items) (fields s .items))
+  pub wrote : Wrote old 0 (bytesOf (stays listed (fields s .items))) new (r .kept)
+  pub removed : r .removed ≡ length (bytesOf (gone listed (fields s .items)))
+  pub fields : r .fields ≡ length (gone listed (fields s .items))

@@ -13,19 +13,19 @@ use Rattle.block.specs.OwnList.{ownList}
 use Rattle.authserv.specs.Identifier.{identifier}
 use Rattle.authserv.specs.Listed.{among}
 
--- whose identifier is unreadable or equals a list entry. The rest of the body doesn't matter
-unfoldable pub disowned : List (List ℕ) → List ℕ → Bool
-disowned own body = elim (identifier body) [ nothing ↦ true | got i _ ↦ among own i ]
+-- whose identifier is unreadable or listed. The rest of the body doesn't matter
+unfoldable pub disowned : (List ℕ → Bool) → List ℕ → Bool
+disowned listed body = elim (identifier body) [ nothing ↦ true | got i _ ↦ listed i ]
 
--- Removed: each field named Authentication-Results whose identifier is unreadable or equals a list entry
-unfoldable pub goes : List (List ℕ) → Field → Bool
-goes own f = named (bytes "Authentication-Results") f && disowned own (bodyOf f)
+-- Removed: each field named Authentication-Results whose identifier is unreadable or listed
+unfoldable pub goes : (List ℕ → Bool) → Field → Bool
+goes listed f = named (bytes "Authentication-Results") f && disowned listed (bodyOf f)
 
-abbrev pub gone : List (List ℕ) → List Field → List Field
-gone own = those (goes own)
+abbrev pub gone : (List ℕ → Bool) → List Field → List Field
+gone listed = those (goes listed)
 
-abbrev pub stays : List (List ℕ) → List Field → List Field
-stays own = those (λ f. not (goes own f))
+abbrev pub stays : (List ℕ → Bool) → List Field → List Field
+stays listed = those (λ f. not (goes listed f))
 
 -- an answer, and what is written
 pub record Answer : Type 0 where
@@ -60,10 +60,11 @@ fitted keeps goers room = elim (ltb room (length (bytesOf keeps))) [ true ↦ re
 abbrev pub unless : {A : Type 0} → Walked A → (List A → Answer) → Answer
 unless w f = elim (w .number) [ zero ↦ f (w .items) | suc n ↦ refuse (suc n) (w .place) ]
 
--- 01, Answer numbers: stripping 1, 5, then 2 to 4, then 6
+-- 01, Answer numbers: 2 to 4, then 6
+unfoldable pub sifted : List ℕ → (List ℕ → Bool) → ℕ → Answer
+sifted block listed room = unless (fields block) (λ fs. fitted (stays listed fs) (gone listed fs) room)
+
+-- 01, Answer numbers: stripping 1, 5, then 2 to 4, then 6. An identifier is listed when it equals a list entry
 unfoldable pub strip : List ℕ → List ℕ → ℕ → Answer
 strip block list room =
-    elim (ltb byteLimit (length block)) [
-      | true ↦ refuse 1 0
-      | false ↦ unless (ownList list) (λ own. unless (fields block) (λ fs. fitted (stays own fs) (gone own fs) room))
-    ]
+    elim (ltb byteLimit (length block)) [ true ↦ refuse 1 0 | false ↦ unless (ownList list) (λ own. sifted block (among own) room) ]

@@ -20,7 +20,9 @@ ghost use lib.ListN.{length};
 ghost use Rattle.reading.specs.Texts.{bytes};
 ghost use Rattle.lexis.specs.Bytes.{alike};
 ghost use Rattle.block.specs.OwnList.{ownList};
-ghost use Rattle.strip.specs.Strip.{disowned, strip};
+ghost use Rattle.authserv.specs.Listed.{among};
+ghost use Rattle.authserv.specs.Spelled.{linesOf, amongSpelled};
+ghost use Rattle.strip.specs.Strip.{disowned, sifted, strip};
 ghost use Rattle.strip.specs.Answers.{answerOf, leaves, isDisowned, Sifted};
 
 pub struct Stripped {
@@ -41,26 +43,26 @@ fn disowns(o: Own) -> bool
     }
 }
 
-// Whether the identifier of a body is unreadable or equals a list entry.
-fn is_disowned(list: &[u8], body: &[u8]) -> bool
-    ensures { λ r. ⌜ r ≡ disowned (ownList (now (list .entry)) .items) (now (body .entry)) ⌝ }
+// Whether the identifier of a body is unreadable or is spelled as a line of our own list.
+fn is_disowned(own: &[u8], body: &[u8]) -> bool
+    ensures { λ r. ⌜ r ≡ disowned (amongSpelled (linesOf (now (own .entry)))) (now (body .entry)) ⌝ }
 {
-    disowns(authserv::own::whose(list, body))
+    disowns(authserv::own::whose_spelled(own, body))
 }
 
 // Whether a field with this name and this body is removed.
-fn is_removed(list: &[u8], name: &[u8], body: &[u8]) -> bool
-    ensures { λ r. ⌜ r ≡ (alike (now (name .entry)) (bytes "Authentication-Results") && disowned (ownList (now (list .entry)) .items) (now (body .entry))) ⌝ }
+fn is_removed(own: &[u8], name: &[u8], body: &[u8]) -> bool
+    ensures { λ r. ⌜ r ≡ (alike (now (name .entry)) (bytes "Authentication-Results") && disowned (amongSpelled (linesOf (now (own .entry)))) (now (body .entry))) ⌝ }
 {
     if lexis::text::same_text(name, b"Authentication-Results") {
-        return is_disowned(list, body);
+        return is_disowned(own, body);
     }
     false
 }
 
 // Writes the kept fields over the front of `out`, as far as that reaches, up to the first refusal.
-fn sift(s: &[u8], list: &[u8], out: &mut [u8]) -> Stripped
-    ensures { λ r. ⌜ Sifted (now (s .entry)) (now (list .entry)) (now (out .entry)) (now (out .exit)) r ⌝ }
+fn sift(s: &[u8], own: &[u8], out: &mut [u8]) -> Stripped
+    ensures { λ r. ⌜ Sifted (now (s .entry)) (amongSpelled (linesOf (now (own .entry)))) (now (out .entry)) (now (out .exit)) r ⌝ }
 {
     let fresh = Walk::fresh();
     let mut at = fresh.at;
@@ -76,7 +78,7 @@ fn sift(s: &[u8], list: &[u8], out: &mut [u8]) -> Stripped
                 body_start,
                 end,
             } => {
-                if is_removed(list, &s[start..name_end], &s[body_start..end - 2]) {
+                if is_removed(own, &s[start..name_end], &s[body_start..end - 2]) {
                     removed += end - start;
                     fields += 1;
                     at = end;
@@ -121,8 +123,38 @@ fn refuse(number: u8, place: usize) -> Stripped
     }
 }
 
-// The first pass goes to a buffer of its own, as far as that reaches: nothing is written to `out` before it is known that all of it fits. Where
-// it all went there it is copied; else a second pass writes it.
+// Strips by our own list as it is compared. The first pass goes to a buffer of its own, as far as that reaches: nothing is written to `out`
+// before it is known that all of it fits. Where it all went there it is copied; else a second pass writes it.
+fn strip_by(s: &[u8], own: &[u8], out: &mut [u8]) -> Stripped
+    ensures { λ r. ⌜ r ≡ answerOf (sifted (now (s .entry)) (amongSpelled (linesOf (now (own .entry)))) (length (now (out .entry)))) ⌝ }
+    ensures { λ _. ⌜ now (out .exit) ≡ leaves (sifted (now (s .entry)) (amongSpelled (linesOf (now (own .entry)))) (length (now (out .entry)))) (now (out .entry)) ⌝ }
+{
+    let mut first = [0u8; 8192];
+    let sums = sift(s, own, &mut first);
+    if sums.number != 0 {
+        return refuse(sums.number, sums.place);
+    }
+    if sums.kept > out.len() {
+        return refuse(6, sums.kept);
+    }
+    if sums.kept > first.len() {
+        return sift(s, own, out);
+    }
+    lexis::text::put_text(&first[..sums.kept], out, 0);
+    sums
+}
+
+// Strips by a list that has to be spelled first.
+fn strip_spelled(s: &[u8], list: &[u8], out: &mut [u8]) -> Stripped
+    ensures { λ r. ⌜ r ≡ answerOf (sifted (now (s .entry)) (among (ownList (now (list .entry)) .items)) (length (now (out .entry)))) ⌝ }
+    ensures { λ _. ⌜ now (out .exit) ≡ leaves (sifted (now (s .entry)) (among (ownList (now (list .entry)) .items)) (length (now (out .entry)))) (now (out .entry)) ⌝ }
+{
+    let mut own = [0u8; authserv::own::SPELLED];
+    let n = authserv::own::spell_list(list, &mut own);
+    strip_by(s, &own[..n], out)
+}
+
+// A list without two hyphens in a row is compared as it stands; any other is spelled once, for all fields.
 pub fn strip(s: &[u8], list: &[u8], out: &mut [u8]) -> Stripped
     ensures { λ r. ⌜ r ≡ answerOf (strip (now (s .entry)) (now (list .entry)) (length (now (out .entry)))) ⌝ }
     ensures { λ _. ⌜ now (out .exit) ≡ leaves (strip (now (s .entry)) (now (list .entry)) (length (now (out .entry)))) (now (out .entry)) ⌝ }
@@ -136,17 +168,8 @@ pub fn strip(s: &[u8], list: &[u8], out: &mut [u8]) -> Stripped
         }
         Checked::Good => {}
     }
-    let mut first = [0u8; 8192];
-    let sums = sift(s, list, &mut first);
-    if sums.number != 0 {
-        return refuse(sums.number, sums.place);
+    if punycode::has_double_hyphen(list) {
+        return strip_spelled(s, list, out);
     }
-    if sums.kept > out.len() {
-        return refuse(6, sums.kept);
-    }
-    if sums.kept > first.len() {
-        return sift(s, list, out);
-    }
-    lexis::text::put_text(&first[..sums.kept], out, 0);
-    sums
+    strip_by(s, list, out)
 }

@@ -1,3 +1,4 @@
+-- `strip::sift` meets its contract: at each turn what is left of the block answers as the whole. Assumes nothing.
 use native.Mathlib.Omega.{arith}
 use borrow.Author.Needs.{needs}
 use Prim.Native.Nat.{_-_}
@@ -6,20 +7,16 @@ use lib.ListN.{length, drop}
 use Rattle.block.specs.declared.Next.the-variants.{Field}
 use Rattle.block.specs.Steps.{nextFrom}
 use Rattle.block.proofs.Steps.{Cut, step-field}
+use Rattle.authserv.specs.Spelled.{linesOf, amongSpelled}
 use Rattle.strip.proofs.Sifting.{Sifting, sift-start, sift-end, sift-refused, sift-gone, sift-kept, bytes-long}
 use Rattle.strip.proofs.sift.Statement.{statement}
 use Rattle.strip.proofs.sift.Tie as tie
-use Rattle.strip.proofs.sift.Reads as reads
-use Rattle.strip.proofs.sift.Lts as lts
-use Rattle.block.proofs.next_field.Reads as next-field-reads
-use Rattle.lexis.proofs.text.put_text.Reads as put-text-reads
-use Rattle.strip.proofs.is_removed.Reads as is-removed-reads
 
 abbrev Inv-loop : tie.InvT-loop
-Inv-loop s list out₀ at₀ count₀ kept₀ removed₀ fields₀ out at count kept removed fields = Sifting s list out₀ out at count kept removed fields
+Inv-loop s own out₀ at₀ count₀ kept₀ removed₀ fields₀ out at count kept removed fields = Sifting s (amongSpelled (linesOf own)) out₀ out at count kept removed fields
 
 abbrev μ-loop : tie.MeasureT-loop
-μ-loop s list out₀ at₀ count₀ kept₀ removed₀ fields₀ out at count kept removed fields = length s - at
+μ-loop s own out₀ at₀ count₀ kept₀ removed₀ fields₀ out at count kept removed fields = length s - at
 
 -- the field that a turn takes
 step : (c : tie.After-known-told Inv-loop μ-loop)
@@ -31,130 +28,99 @@ near : (c : tie.After-known-told Inv-loop μ-loop)
     → Cut (c .before .before .before .before .before .before .before .before .before .args .s .now) (c .before .before .before .before .loop .at) (c .before .before .before .before .loop .count) (c .before .start .given .0 .0) (c .before .start .given .0 .1 .0) (c .before .start .given .0 .1 .1 .0) (c .before .start .given .0 .1 .1 .1 .0)
 near c = step-field _ _ _ _ _ _ _ (step c)
 
--- src/lib.rt:70:5
 fresh-requires : tie.Need-fresh-requires Inv-loop μ-loop
 fresh-requires c κs = search needs
 
 loop-holds : tie.Need-loop-holds Inv-loop μ-loop
 loop-holds c = rw (c .fresh .ensures) (sift-start _ _ _)
 
--- src/lib.rt:71:15
 next-field-requires : tie.Need-next-field-requires Inv-loop μ-loop
 next-field-requires c κs = search needs
 
--- src/lib.rt:73:17
 enum-known-start : tie.Need-enum-known-start Inv-loop μ-loop
 enum-known-start c = search needs
 
--- src/lib.rt:78:37
 sub-is-removed : tie.Need-sub-is-removed Inv-loop μ-loop
 sub-is-removed c = omega (arith, near c, c .before .before .before .before .loop .inv)
 
--- src/lib.rt:78:37
 part-is-removed-start : tie.Need-part-is-removed-start Inv-loop μ-loop
 part-is-removed-start c = omega (arith, near c, c .before .before .before .before .loop .inv)
 
--- src/lib.rt:78:37
 part-is-removed-end : tie.Need-part-is-removed-end Inv-loop μ-loop
 part-is-removed-end c = omega (arith, near c, c .before .before .before .before .loop .inv)
 
--- src/lib.rt:78:73
 sub-is-removed-2 : tie.Need-sub-is-removed-2 Inv-loop μ-loop
 sub-is-removed-2 c = omega (arith, near (c .before), c .before .before .before .before .before .loop .inv)
 
--- src/lib.rt:78:58
 sub-is-removed-3 : tie.Need-sub-is-removed-3 Inv-loop μ-loop
 sub-is-removed-3 c = omega (arith, near (c .before), c .before .before .before .before .before .loop .inv)
 
--- src/lib.rt:78:58
 part-is-removed-start-2 : tie.Need-part-is-removed-start-2 Inv-loop μ-loop
 part-is-removed-start-2 c = omega (arith, near (c .before), c .before .before .before .before .before .loop .inv)
 
--- src/lib.rt:78:58
 part-is-removed-end-2 : tie.Need-part-is-removed-end-2 Inv-loop μ-loop
 part-is-removed-end-2 c = omega (arith, near (c .before), c .before .before .before .before .before .loop .inv)
 
--- src/lib.rt:78:20
 is-removed-requires : tie.Need-is-removed-requires Inv-loop μ-loop
 is-removed-requires c κs = search needs
 
--- src/lib.rt:79:32
 sub-removed : tie.Need-sub-removed Inv-loop μ-loop
 sub-removed c = omega (arith, near (c .before .before .before .before), c .before .before .before .before .before .before .before .before .loop .inv)
 
--- src/lib.rt:79:21
 add-removed : tie.Need-add-removed Inv-loop μ-loop
 add-removed c = omega (arith, near (c .before .before .before .before), c .before .before .before .before .before .before .before .before .loop .inv)
 
--- src/lib.rt:80:21
 add-fields : tie.Need-add-fields Inv-loop μ-loop
 add-fields c = omega (arith, near (c .before .before .before .before), c .before .before .before .before .before .before .before .before .loop .inv)
 
--- src/lib.rt:82:21
 add-count : tie.Need-add-count Inv-loop μ-loop
 add-count c = omega (arith, near (c .before .before .before .before), c .before .before .before .before .before .before .before .before .loop .inv)
 
--- src/lib.rt:70:5
 loop-less : tie.Need-loop-less Inv-loop μ-loop
 loop-less c = omega (arith, near (c .before .before .before .before), c .before .before .before .before .before .before .before .before .loop .inv)
 
--- src/lib.rt:70:5
 loop-again : tie.Need-loop-again Inv-loop μ-loop
 loop-again c = sift-gone _ _ _ _ _ _ _ _ _ (c .before .before .before .before .before .before .before .before .loop .inv) _ _ _ _ (step (c .before .before .before .before)) _ (c .before .is-removed .ensures) (c .if1 .taken)
 
--- src/lib.rt:84:51
 sub-put-text : tie.Need-sub-put-text Inv-loop μ-loop
 sub-put-text c = omega (arith, near (c .before .before .before .before), c .before .before .before .before .before .before .before .before .loop .inv)
 
--- src/lib.rt:84:51
 part-put-text-start : tie.Need-part-put-text-start Inv-loop μ-loop
 part-put-text-start c = omega (arith, near (c .before .before .before .before), c .before .before .before .before .before .before .before .before .loop .inv)
 
--- src/lib.rt:84:51
 part-put-text-end : tie.Need-part-put-text-end Inv-loop μ-loop
 part-put-text-end c = omega (arith, near (c .before .before .before .before), c .before .before .before .before .before .before .before .before .loop .inv)
 
--- src/lib.rt:84:29
 put-text-requires : tie.Need-put-text-requires Inv-loop μ-loop
 put-text-requires c κs = search needs
 
--- src/lib.rt:84:21
 add-kept : tie.Need-add-kept Inv-loop μ-loop
 add-kept c = omega (arith, near (c .before .before .before .before .before .before .before .before .before), c .before .before .before .before .before .before .before .before .before .before .before .before .before .loop .inv, c .before .before .put-text .ensures .count, bytes-long _ _ _ _ _ _ _ _ _ (c .before .before .before .before .before .before .before .before .before .before .before .before .before .loop .inv) _ _ _ _ (step (c .before .before .before .before .before .before .before .before .before)))
 
--- src/lib.rt:86:21
 add-count-2 : tie.Need-add-count-2 Inv-loop μ-loop
 add-count-2 c = omega (arith, near (c .before .before .before .before .before .before .before .before .before), c .before .before .before .before .before .before .before .before .before .before .before .before .before .loop .inv)
 
--- src/lib.rt:70:5
 loop-less-2 : tie.Need-loop-less-2 Inv-loop μ-loop
 loop-less-2 c = omega (arith, near (c .before .before .before .before .before .before .before .before .before), c .before .before .before .before .before .before .before .before .before .before .before .before .before .loop .inv)
 
--- src/lib.rt:70:5
 loop-again-2 : tie.Need-loop-again-2 Inv-loop μ-loop
 loop-again-2 c = sift-kept _ _ _ _ _ _ _ _ _ (c .before .before .before .before .before .before .before .before .before .before .before .before .before .loop .inv) _ _ _ _ (step (c .before .before .before .before .before .before .before .before .before)) _ (c .before .before .before .before .before .before .is-removed .ensures) (c .before .before .before .before .before .if1 .left) _ _ (c .before .before .put-text .ensures)
 
--- src/lib.rt:90:17
 enum-told : tie.Need-enum-told Inv-loop μ-loop
 enum-told c = search needs
 
--- src/lib.rt:90:17
 same-length : tie.Need-same-length Inv-loop μ-loop
 same-length c = c .before .before .before .loop .inv .left .long
 
--- src/lib.rt:90:17
 returns : tie.Need-returns Inv-loop μ-loop
 returns c = sift-end _ _ _ _ _ _ _ _ _ (c .before .before .before .loop .inv) (sym (c .enum-told .given .1) ∙ c .before .before .next-field .ensures)
 
--- src/lib.rt:98:29
 enum-known-number : tie.Need-enum-known-number Inv-loop μ-loop
 enum-known-number c = search needs
 
--- src/lib.rt:99:17
 same-length-2 : tie.Need-same-length-2 Inv-loop μ-loop
 same-length-2 c = c .before .before .before .before .loop .inv .left .long
 
--- src/lib.rt:99:17
 returns-2 : tie.Need-returns-2 Inv-loop μ-loop
 returns-2 c = sift-refused _ _ _ _ _ _ _ _ _ (c .before .before .before .before .loop .inv) _ _ (sym (c .before .number .given .1) ∙ c .before .before .before .next-field .ensures)
 

@@ -1,76 +1,39 @@
--- `authserv::own::whose` meets its contract: where the identifier is read, the list is asked for its text. Assumes nothing.
-use Prim.Native.Nat.{_≤_}
+-- `authserv::own::whose` meets its contract: the list is spelled into a buffer that holds the longest, and asked there. Assumes nothing.
 use native.Mathlib.Omega.{arith}
-use mathlib.Core.Path.{_≡_, sym, _∙_}
-use lib.ListN.{length}
-use Rattle.authserv.specs.declared.Identifier.the-variants.{Readable}
-use Rattle.authserv.specs.Answers.{identifierAt}
-use Rattle.authserv.proofs.Identifiers.{identifier-inside}
-use Rattle.authserv.proofs.Listing.{whose-none, whose-quoted, whose-token}
+use mathlib.Core.Path.{sym}
+use lib.Seq.{length-take-le}
+use Rattle.sequences.proofs.Splices.{put-long}
+use Rattle.authserv.proofs.OwnLists.{list-length}
+use Rattle.authserv.proofs.Whose.{whose-list}
 use borrow.Author.Needs.{needs}
 use Rattle.authserv.proofs.own.whose.Statement.{statement}
 use Rattle.authserv.proofs.own.whose.Tie as tie
 
--- the identifier that was found
-found : (c : tie.After-known-told) → Readable (c .before .start .given .0 .0) (c .before .start .given .0 .1 .0) (c .before .start .given .0 .1 .1 .0) ≡ identifierAt (c .before .before .before .before .before .before .args .body .now)
-found c = sym (c .before .start .given .1) ∙ c .before .before .before .identify .ensures
+slice-aggregate-spell-list : tie.Need-slice-aggregate-spell-list
+slice-aggregate-spell-list c = search needs
 
-inside : (c : tie.After-known-told) → (c .before .start .given .0 .0 ≤ c .before .start .given .0 .1 .0) × (c .before .start .given .0 .1 .0 ≤ length (c .before .before .before .before .before .before .args .body .now))
-inside c = identifier-inside _ _ _ _ (found c)
+spell-list-requires : tie.Need-spell-list-requires
+spell-list-requires c κs = search needs
 
-identify-requires : tie.Need-identify-requires
-identify-requires c κs = search needs
+array-share-prefix-own : tie.Need-array-share-prefix-own
+array-share-prefix-own c = omega (arith, c .before .spell-list .ensures .count, list-length (c .before .before .before .before .before .args .list .now), put-long (c .before .spell-list .ensures))
 
-enum-known-start : tie.Need-enum-known-start
-enum-known-start c = search needs
+slice-aggregate-whose-spelled : tie.Need-slice-aggregate-whose-spelled
+slice-aggregate-whose-spelled c = sym (length-take-le _ _ (omega (arith, c .before .before .spell-list .ensures .count, list-length (c .before .before .before .before .before .before .args .list .now), put-long (c .before .before .spell-list .ensures))))
 
-enum-told : tie.Need-enum-told
-enum-told c = search needs
+whose-spelled-requires : tie.Need-whose-spelled-requires
+whose-spelled-requires c κs = search needs
 
 returns : tie.Need-returns
-returns c = whose-none _ _ (sym (c .enum-told .given .1) ∙ c .before .before .identify .ensures)
-
-is-quoted-listed-requires : tie.Need-is-quoted-listed-requires
-is-quoted-listed-requires c κs = search needs
-
-own-if-requires : tie.Need-own-if-requires
-own-if-requires c κs = search needs
-
-returns-2 : tie.Need-returns-2
-returns-2 c = whose-quoted _ (c .before .before .before .before .before .before .before .before .before .args .body .now) _ _ _ (found (c .before .before .before)) (c .before .before .if1 .taken) _ (c .before .is-quoted-listed .ensures) _ (c .own-if .ensures)
-
-sub-is-listed : tie.Need-sub-is-listed
-sub-is-listed c = omega (arith, inside (c .before))
-
-part-is-listed-start : tie.Need-part-is-listed-start
-part-is-listed-start c = omega (arith, inside (c .before))
-
-part-is-listed-end : tie.Need-part-is-listed-end
-part-is-listed-end c = omega (arith, inside (c .before))
-
-is-listed-requires : tie.Need-is-listed-requires
-is-listed-requires c κs = search needs
-
-own-if-requires-2 : tie.Need-own-if-requires-2
-own-if-requires-2 c κs = search needs
-
-returns-3 : tie.Need-returns-3
-returns-3 c = whose-token _ (c .before .before .before .before .before .before .before .before .before .before .args .body .now) _ _ _ (found (c .before .before .before .before)) (c .before .before .before .if1 .left) _ (c .before .is-listed .ensures) _ (c .own-if2 .ensures)
+returns c = whose-list (c .before .before .before .before .before .before .before .args .list .now) (c .before .before .before .before .before .before .before .args .body .now) _ _ _ (c .before .before .before .spell-list .ensures) (omega (arith, c .before .before .before .spell-list .ensures .count, list-length (c .before .before .before .before .before .before .before .args .list .now), put-long (c .before .before .before .spell-list .ensures))) _ (c .whose-spelled .ensures)
 
 pub whose-spec : {M : Type 1} → statement M
 whose-spec =
     tie.close
     (tie.spec
-    identify-requires
-    enum-known-start
-    enum-told
-    returns
-    is-quoted-listed-requires
-    own-if-requires
-    returns-2
-    sub-is-listed
-    part-is-listed-start
-    part-is-listed-end
-    is-listed-requires
-    own-if-requires-2
-    returns-3)
+    slice-aggregate-spell-list
+    spell-list-requires
+    array-share-prefix-own
+    slice-aggregate-whose-spelled
+    whose-spelled-requires
+    returns)
