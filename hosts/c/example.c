@@ -5,7 +5,8 @@
  *   ./example BLOCK IDENTIFIER...
  *
  * BLOCK is a file with a header block: lines ended by CRLF, without the empty line after it.
- * The identifiers are our own, as mx.example.com.
+ * The identifiers are our own, as mx.example.com. One with international labels may be given in
+ * UTF-8 or with its A-labels, as xn--bcher-kva.example: either strips the fields of both.
  */
 #include "orbendash.h"
 

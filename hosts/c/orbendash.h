@@ -56,11 +56,14 @@ enum {
     ORBENDASH_BAD_LINE = 3,
     /* A field more than ORBENDASH_FIELDS. Place: its start. */
     ORBENDASH_TOO_MANY_FIELDS = 4,
-    /* A bad own list. Place: start of the first bad entry. */
+    /* A bad own list: an entry that is empty, over ORBENDASH_ENTRY_BYTES bytes, without its LF,
+       one more than ORBENDASH_ENTRIES, or with a byte that is neither 33 to 126 nor part of valid
+       UTF-8. Place: start of the first bad entry. */
     ORBENDASH_BAD_LIST = 5,
     /* The output is shorter than all that would be written. Place: the bytes needed. */
     ORBENDASH_NO_ROOM = 6,
-    /* The identifier can't be read. Place 0. */
+    /* The identifier can't be read. One that isn't quoted may have any bytes from 128 up. Place
+       0. */
     ORBENDASH_BAD_IDENTIFIER = 7,
     /* The header version isn't 1; the id and v lines are written. Place 0. */
     ORBENDASH_OTHER_VERSION = 8,
@@ -85,8 +88,18 @@ typedef struct {
  * our own list or can't be read.
  *
  * The list holds our identifiers, each ended by LF: at most ORBENDASH_ENTRIES, each of 1 to
- * ORBENDASH_ENTRY_BYTES bytes 33 to 126. It may be empty. Identifiers compare without regard to
- * ASCII case. An output as long as the block is always long enough.
+ * ORBENDASH_ENTRY_BYTES bytes, which are 33 to 126 or UTF-8 from 128 up. It may be empty. An
+ * output as long as the block is always long enough.
+ *
+ * Identifiers compare by their labels, which are parted by dots. A label that starts with xn--,
+ * in either case, stands for the U-label that it decodes to by Punycode (RFC 3492), once; one
+ * that doesn't decode, or decodes to a surrogate or to a number above 10FFFF hex, stands for
+ * itself. Then ASCII case doesn't count.
+ * So the entry xn--bcher-kva.example and the same with a u umlaut in UTF-8 remove the same
+ * fields, whichever of the two a field has. Nothing else is made equal: no other case, no
+ * normalisation.
+ *
+ * It needs up to 96 KB of stack.
  *
  * The first of these that applies is the number: 1 the block is too long; 5 a bad list; 2, 3 or
  * 4 a bad block; 6 no room; 0 done.
@@ -110,7 +123,7 @@ typedef struct {
  *
  * The report's lines end with LF, its columns are parted by one tab:
  *
- *   id  text                            the identifier
+ *   id  text                            the identifier, as it stands: no label is decoded
  *   none                                the field says that nothing was done
  *   m   method  result                  a result
  *   r   text                            its reason, if it has one

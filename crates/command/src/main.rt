@@ -12,6 +12,7 @@ mod answers;
 mod lines;
 mod transfer;
 
+use authserv::own::SPELLED;
 use block::Checked;
 use block::Entries;
 use block::Next;
@@ -56,15 +57,15 @@ fn strip_block(block: &[u8], list: &[u8]) {
     answers::too_long();
 }
 
-// Adds the n-th field of the block: its line and its report.
-fn add_report(n: usize, list: &[u8], body: &[u8], out: &mut [u8], from: usize) -> usize
+// Adds the n-th field of the block: its line and its report. `own` is our own list as it is compared.
+fn add_report(n: usize, own: &[u8], body: &[u8], out: &mut [u8], from: usize) -> usize
     ensures { λ r. ⌜ r ≤ length (now (out .exit)) ⌝ }
 {
     let mut text = [0u8; REPORT];
     let r = report::report(body, &mut text);
     let at = lines::add_field(
         n,
-        authserv::own::whose(list, body),
+        authserv::own::whose_spelled(own, body),
         r.number,
         r.ignored,
         out,
@@ -80,12 +81,12 @@ fn add_report(n: usize, list: &[u8], body: &[u8], out: &mut [u8], from: usize) -
 }
 
 // Adds a field if it is an Authentication-Results field.
-fn add_if(n: usize, list: &[u8], name: &[u8], body: &[u8], out: &mut [u8], at: usize) -> usize
+fn add_if(n: usize, own: &[u8], name: &[u8], body: &[u8], out: &mut [u8], at: usize) -> usize
     requires { ⌜ at ≤ length (now out) ⌝ }
     ensures { λ r. ⌜ r ≤ length (now (out .exit)) ⌝ }
 {
     if lexis::text::same_text(name, b"Authentication-Results") {
-        return add_report(n, list, body, out, at);
+        return add_report(n, own, body, out, at);
     }
     at
 }
@@ -98,7 +99,7 @@ struct Reports {
 }
 
 // Adds the reports of a block's fields.
-fn add_reports(block: &[u8], list: &[u8], out: &mut [u8]) -> Reports
+fn add_reports(block: &[u8], own: &[u8], out: &mut [u8]) -> Reports
     ensures { λ r. ⌜ r .end ≤ length (now (out .exit)) ⌝ }
 {
     let fresh = Walk::fresh();
@@ -117,7 +118,7 @@ fn add_reports(block: &[u8], list: &[u8], out: &mut [u8]) -> Reports
                 at = end;
                 to = add_if(
                     count,
-                    list,
+                    own,
                     &block[start..name_end],
                     &block[body_start..end - 2],
                     out,
@@ -142,7 +143,21 @@ fn add_reports(block: &[u8], list: &[u8], out: &mut [u8]) -> Reports
     }
 }
 
-// Reports a block: 1, then 5, then 2 to 4, and only then is anything written.
+// Reports a sound or unsound block by our own list as it is compared.
+fn report_by(block: &[u8], own: &[u8], list: &[u8]) {
+    let mut out = [0u8; REPORTS];
+    let r = add_reports(block, own, &mut out);
+    if r.number != 0 {
+        return answers::refuse(r.number, r.place, list);
+    }
+    let end = r.end;
+    if lines::is_whole(&out, end) {
+        return put(&out[..end]);
+    }
+    answers::too_long();
+}
+
+// Reports a block: 1, then 5, then 2 to 4, and only then is anything written. The list is spelled once, for all fields.
 fn report_block(block: &[u8], list: &[u8]) {
     if lexis::too_long(block) {
         return answers::refuse(1, 0, list);
@@ -153,14 +168,10 @@ fn report_block(block: &[u8], list: &[u8]) {
         }
         Checked::Good => {}
     }
-    let mut out = [0u8; REPORTS];
-    let r = add_reports(block, list, &mut out);
-    if r.number != 0 {
-        return answers::refuse(r.number, r.place, list);
-    }
-    let end = r.end;
-    if lines::is_whole(&out, end) {
-        return put(&out[..end]);
+    let mut own = [0u8; SPELLED];
+    let n = authserv::own::spell_list(list, &mut own);
+    if n <= own.len() {
+        return report_by(block, &own[..n], list);
     }
     answers::too_long();
 }

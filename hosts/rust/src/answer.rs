@@ -18,11 +18,13 @@ pub mod number {
     pub const BAD_LINE: u8 = 3;
     /// A 513th field. Place: its start.
     pub const TOO_MANY_FIELDS: u8 = 4;
-    /// A bad own list. Place: start of the first bad entry.
+    /// A bad own list: an entry that is empty, over 255 bytes, without its LF or the 65th, or one
+    /// with a byte that is neither 33 to 126 nor part of valid UTF-8. Place: start of the first bad
+    /// entry.
     pub const BAD_LIST: u8 = 5;
     /// The lent output is shorter than the whole output. Place: the bytes needed.
     pub const NO_ROOM: u8 = 6;
-    /// The identifier can't be read. Place 0.
+    /// The identifier can't be read. One that isn't quoted may have any bytes from 128 up. Place 0.
     pub const BAD_IDENTIFIER: u8 = 7;
     /// The header version isn't 1. No refusal: the `id` and `v` lines are written. Place 0.
     pub const OTHER_VERSION: u8 = 8;

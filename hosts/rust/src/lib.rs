@@ -61,8 +61,12 @@ mod library {
 /// on our own list or can't be read.
 ///
 /// `block` is a header block without the empty line after it. `list` holds our identifiers, each
-/// ended by LF: at most 64, each of 1 to 255 bytes 33 to 126. A room of `block.len()` is always
-/// enough.
+/// ended by LF: at most 64, each of 1 to 255 bytes, which are 33 to 126 or UTF-8 from 128 up. A
+/// room of `block.len()` is always enough.
+///
+/// Identifiers are compared without regard to ASCII case, and each label that starts with `xn--`
+/// by what Punycode (RFC 3492) decodes it to, if it does: `xn--bcher-kva.example` and
+/// `bücher.example` are equal.
 ///
 /// The first of these that applies is the number: 1 the block is over 65,536 bytes; 5 a bad list;
 /// 2, 3 or 4 a bad block; 6 the room is too small, with the bytes needed as place; 0 done.

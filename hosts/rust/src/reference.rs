@@ -2,7 +2,10 @@
 //!
 //! Nothing here calls the linked library, and nothing of it was taken from there: the
 //! differential tests compare the two, and the benchmark measures one against the other.
-//! Names in quotes are the paper's sections.
+//! Names in quotes are the paper's sections. Identifiers are compared as ticket [2] of document
+//! 02 has it: with international labels.
+
+mod punycode;
 
 use std::borrow::Cow;
 use std::collections::HashSet;
@@ -47,10 +50,7 @@ pub fn strip(block: &[u8], list: &[u8], out: &mut [u8]) -> StripAnswer {
         {
             // The rest of the body doesn't matter.
             let forged = match Cursor::new(field.body(block)).identifier() {
-                Some(id) => {
-                    let text = id.text();
-                    own.iter().any(|entry| entry.eq_ignore_ascii_case(&text))
-                }
+                Some(id) => own.has(&id.text()),
                 None => true,
             };
             if forged {
@@ -299,21 +299,45 @@ impl Iterator for Walk<'_> {
     }
 }
 
-/// The entries of the own list, or the start of the first bad one.
-fn own_list(list: &[u8]) -> Result<Vec<&[u8]>, usize> {
-    let mut entries = Vec::new();
+/// The entries of the own list, as they are compared.
+struct OwnList<'a> {
+    entries: Vec<Cow<'a, [u8]>>,
+    /// The bytes of the longest.
+    longest: usize,
+}
+
+impl OwnList<'_> {
+    /// Whether an identifier equals an entry.
+    fn has(&self, text: &[u8]) -> bool {
+        u_labels(text, self.longest).is_some_and(|text| {
+            self.entries
+                .iter()
+                .any(|entry| entry.eq_ignore_ascii_case(&text))
+        })
+    }
+}
+
+/// The own list, or the start of the first bad entry.
+fn own_list(list: &[u8]) -> Result<OwnList<'_>, usize> {
+    let mut own = OwnList {
+        entries: Vec::new(),
+        longest: 0,
+    };
     let mut at = 0;
     while at < list.len() {
         let rest = &list[at..];
-        let length = prefix(rest, |b| (33..=126).contains(&b));
-        let ended = rest.get(length) == Some(&b'\n');
-        if !ended || length == 0 || length > MAX_ENTRY_BYTES || entries.len() == MAX_ENTRIES {
+        let entry = &rest[..prefix(rest, |b| matches!(b, 33..=126 | 128..))];
+        let ended = rest.get(entry.len()) == Some(&b'\n');
+        let fits = (1..=MAX_ENTRY_BYTES).contains(&entry.len()) && own.entries.len() < MAX_ENTRIES;
+        if !ended || !fits || std::str::from_utf8(entry).is_err() {
             return Err(at);
         }
-        entries.push(&rest[..length]);
-        at += length + 1;
+        at += entry.len() + 1;
+        let entry = compared(entry);
+        own.longest = own.longest.max(entry.len());
+        own.entries.push(entry);
     }
-    Ok(entries)
+    Ok(own)
 }
 
 // "Small pieces of a body"
@@ -343,8 +367,9 @@ const fn with(mut set: [bool; 256], byte: u8) -> [bool; 256] {
 /// Bytes that stand for themselves in a comment, and in a quoted string.
 static COMMENT: [bool; 256] = with(class(32, 255, b"()\\\x7f"), b'\t');
 static QUOTED: [bool; 256] = with(class(32, 255, b"\"\\\x7f"), b'\t');
-/// Bytes of a token.
+/// Bytes of a token, and of the identifier's, which may also have bytes from 128 up.
 static TOKEN: [bool; 256] = class(33, 126, b"()<>@,;:\\\"/[]?=");
+static IDENTIFIER: [bool; 256] = class(33, 255, b"()<>@,;:\\\"/[]?=\x7f");
 /// Bytes of a mailbox's local part that isn't quoted: RFC 5322's atext, and the dot.
 static LOCAL_PART: [bool; 256] = class(33, 126, b"()<>@,;:\\\"[]");
 /// Bytes that the report writes as they are.
@@ -538,12 +563,12 @@ impl<'a> Cursor<'a> {
         self.run(|b| TOKEN[b as usize])
     }
 
-    /// Value: token or quoted.
-    fn value(&mut self) -> Option<Text<'a>> {
+    /// Value: token or quoted. The token's bytes are those of the class.
+    fn value(&mut self, token: &[bool; 256]) -> Option<Text<'a>> {
         if self.peek() == Some(b'"') {
             self.quoted()
         } else {
-            self.token().map(Text::Token)
+            self.run(|b| token[b as usize]).map(Text::Token)
         }
     }
 
@@ -570,7 +595,7 @@ impl<'a> Cursor<'a> {
 
     fn identifier(&mut self) -> Option<Text<'a>> {
         self.space();
-        let text = self.value()?;
+        let text = self.value(&IDENTIFIER)?;
         self.word_ends().then_some(text)
     }
 
@@ -654,7 +679,7 @@ impl<'a> Cursor<'a> {
             let may_be_reason = reason.is_none() && properties.len() == first;
             if may_be_reason && is(word, b"reason") && self.eat(b'=').is_some() {
                 self.space();
-                reason = Some(self.value()?);
+                reason = Some(self.value(&TOKEN)?);
                 continue;
             }
             self.eat(b'.')?;
@@ -776,6 +801,56 @@ impl<'a> Cursor<'a> {
             }
         }
     }
+}
+
+// "Identifier and header version": what identifiers are compared by.
+
+/// An identifier or list entry with its A-labels decoded, each once. Two of them are equal when
+/// these are equal but for ASCII case.
+pub fn compared(text: &[u8]) -> Cow<'_, [u8]> {
+    u_labels(text, usize::MAX).expect("nothing has more bytes than that")
+}
+
+fn labels(text: &[u8]) -> impl Iterator<Item = &[u8]> {
+    text.split(|&b| b == b'.')
+}
+
+/// What stands behind the prefix of an A-label.
+fn a_label(label: &[u8]) -> Option<&[u8]> {
+    let (prefix, rest) = label.split_at_checked(4)?;
+    prefix.eq_ignore_ascii_case(b"xn--").then_some(rest)
+}
+
+/// The text with each A-label that can be decoded as its U-label in UTF-8; or nothing, where that
+/// has more than `most` bytes.
+fn u_labels(text: &[u8], most: usize) -> Option<Cow<'_, [u8]>> {
+    // Where no A-label starts in the first bytes, these stay, and are too many already if there are
+    // more.
+    let first = &text[..text.len().min(most.saturating_add(5))];
+    if labels(first).all(|label| a_label(label).is_none()) {
+        return (text.len() <= most).then_some(Cow::Borrowed(text));
+    }
+    let mut out = Vec::with_capacity(text.len().min(most));
+    for (index, label) in labels(text).enumerate() {
+        if index > 0 {
+            out.push(b'.');
+        }
+        let decoded = a_label(label).map(|rest| punycode::decode(rest, most));
+        match decoded {
+            Some(Ok(points)) => {
+                for point in points {
+                    out.extend(point.encode_utf8(&mut [0; 4]).bytes());
+                }
+            }
+            // With so many code points the label has more bytes than that, decoded or not.
+            Some(Err(punycode::Failure::Longer)) => return None,
+            Some(Err(punycode::Failure::Undecodable)) | None => out.extend(label),
+        }
+        if out.len() > most {
+            return None;
+        }
+    }
+    Some(Cow::Owned(out))
 }
 
 // "Results": what is read, and what of it is known.
@@ -1103,3 +1178,6 @@ fn read_arc_field(body: &[u8], kind: usize) -> Option<(usize, Option<Cv>)> {
         (bh && h).then_some((instance, None))
     }
 }
+
+#[cfg(test)]
+mod tests;

@@ -9,14 +9,15 @@ use std::collections::BTreeMap;
 use std::fmt::{Debug, Write};
 
 use common::edges::{self, plain_chain};
+use common::labels::{self, Wanted};
 use common::{
-    arc_field, block, body, chain, damaged, list, pad_block, setting, shown, tell, Rng,
-    DEFAULT_SEED, LIMIT,
+    arc_field, block, body, chain, damaged, high_bytes, list, pad_block, setting, shown, tell, Rng,
+    DEFAULT_SEED, HIGH_BYTES, LIMIT,
 };
 use orbendash_host as library;
 use orbendash_host::reference;
 
-const DEFAULT_CASES: u64 = 320_000;
+const DEFAULT_CASES: u64 = 400_000;
 
 /// How often each answer came, from the edge cases and from the generated inputs.
 struct Tally {
@@ -38,9 +39,9 @@ impl Tally {
         }
     }
 
-    /// How many inputs this call's test generates: the four share the count.
+    /// How many inputs this test generates: the five share the count.
     fn cases(&self) -> usize {
-        (setting("ORBENDASH_CASES", DEFAULT_CASES) as usize).div_ceil(4)
+        (setting("ORBENDASH_CASES", DEFAULT_CASES) as usize).div_ceil(5)
     }
 
     fn rng(&self) -> Rng {
@@ -59,7 +60,7 @@ impl Tally {
             self.call, self.seed, self.inputs
         );
         for (answer, [edge, generated]) in &self.counts {
-            let _ = writeln!(text, "    {answer:<28}{edge:>9}{generated:>9}");
+            let _ = writeln!(text, "    {answer:<42}{edge:>9}{generated:>9}");
         }
         tell(&text);
         for answer in wanted {
@@ -253,6 +254,133 @@ fn strip() {
     tally.finish(&numbers(&[0, 1, 2, 3, 4, 5, 6]));
 }
 
+// strip, by international labels
+
+/// What came of the field of a case.
+fn outcome(answer: &library::StripAnswer) -> String {
+    match (answer.number, answer.fields) {
+        (0, 0) => "kept".to_string(),
+        (0, 1) => "removed".to_string(),
+        (number, _) => format!("number {number}"),
+    }
+}
+
+/// A field with an identifier, and an entry: what comes of the field. No room is lent here; the
+/// other tests try all rooms.
+fn run_pair(tally: &mut Tally, what: &str, id: &[u8], entry: &[u8]) {
+    let block = [b"Authentication-Results: \"", id, b"\"\r\n"].concat();
+    let list = [b"a\n", entry, b"\n"].concat();
+    tally.inputs += 1;
+    let ours = library::strip(&block, &list, &mut []);
+    let theirs = reference::strip(&block, &list, &mut []);
+    assert_eq!(
+        ours,
+        theirs,
+        "{}\n list {}\n library and reference",
+        shown(&block),
+        shown(&list)
+    );
+    // A field that is kept needs room.
+    let came = match ours.number {
+        0 => "removed",
+        6 => "kept",
+        _ => "number 5",
+    };
+    tally.count(format!("{what}: {came}"));
+}
+
+fn run_labels(tally: &mut Tally, case: &labels::Case) {
+    tally.inputs += 1;
+    let (block, list) = (&case.block, &case.list);
+    let with = |list: &[u8]| format!("\n list {}\n {}", shown(list), case.kind);
+    if check_strip(block, list).is_err() {
+        disagree(tally, block, &with(list), |block| {
+            check_strip(block, list).map(drop)
+        });
+    }
+    let answer = library::strip(block, list, &mut vec![0; block.len()]);
+    let (number, place, fields) = match case.wanted {
+        _ if block.len() > LIMIT => (1, 0, 0),
+        Wanted::Removed => (0, 0, 1),
+        Wanted::Kept => (0, 0, 0),
+        Wanted::BadList(place) => (5, place, 0),
+        Wanted::Open => (answer.number, answer.place, answer.fields),
+    };
+    assert_eq!(
+        (answer.number, answer.place, answer.fields),
+        (number, place, fields),
+        "{}{}",
+        shown(block),
+        with(list)
+    );
+    tally.count(format!("{}: {}", case.kind, outcome(&answer)));
+}
+
+#[test]
+fn international_labels() {
+    let mut tally = Tally::new("strip, international labels");
+    for punycode in edges::punycode() {
+        let id = [b"xn--", &punycode[..]].concat();
+        run_pair(&mut tally, "same spelling", &id, &id.to_ascii_uppercase());
+        let decoded = reference::compared(&id).into_owned();
+        run_pair(&mut tally, "short label, decoded", &id, &decoded);
+        run_pair(&mut tally, "short label, to decode", &decoded, &id);
+    }
+    let names = edges::long_names();
+    for (name, decoded) in &names {
+        run_pair(&mut tally, "long name, decoded", name, decoded);
+        run_pair(&mut tally, "long name, to decode", decoded, name);
+        run_pair(&mut tally, "long name, same spelling", name, name);
+        run_pair(&mut tally, "long name, another", name, &names[0].0);
+    }
+    // Lists with as many of them as there may be.
+    for entries in names.windows(64).step_by(5) {
+        let list: Vec<u8> = entries
+            .iter()
+            .flat_map(|(name, _)| [&name[..], b"\n"].concat())
+            .collect();
+        for at in [0, 31, 62, 63] {
+            for id in [&entries[at].0, &entries[at].1] {
+                let other = [&id[..id.len() - 1], b"!"].concat();
+                let block = [
+                    b"Authentication-Results: ",
+                    &id[..],
+                    b"\r\nAuthentication-Results: ",
+                    &other[..],
+                    b";\r\n",
+                ];
+                run_strip(&mut tally, &block.concat(), &list);
+            }
+        }
+    }
+    for bytes in edges::utf8() {
+        let entry = [b"x", &bytes[..], b".a"].concat();
+        run_pair(&mut tally, "bytes in the list", &entry, &entry);
+    }
+    tally.generated = true;
+    let mut rng = tally.rng();
+    for _ in 0..tally.cases() {
+        let case = labels::case(&mut rng);
+        run_labels(&mut tally, &case);
+    }
+    let mut wanted: Vec<String> = labels::KINDS.iter().map(|kind| kind.to_string()).collect();
+    for answer in [
+        "same spelling: removed",
+        "short label, decoded: removed",
+        "short label, to decode: removed",
+        "long name, decoded: removed",
+        "long name, decoded: number 5",
+        "long name, to decode: removed",
+        "long name, same spelling: removed",
+        "long name, another: kept",
+        "bytes in the list: removed",
+        "bytes in the list: number 5",
+    ] {
+        wanted.push(answer.to_string());
+    }
+    tally.finish(&wanted);
+}
+
 // report
 
 fn check_report(body: &[u8]) -> Result<Vec<(u8, usize)>, String> {
@@ -317,8 +445,16 @@ fn report() {
             bytes.resize(rng.pick(&[LIMIT, LIMIT + 1]).max(bytes.len()), b' ');
         }
         run_report(&mut tally, &bytes);
+        if rng.chance(5) {
+            let (part, bytes, number) = high_bytes(&mut rng);
+            run_report(&mut tally, &bytes);
+            let answer = library::report(&bytes, &mut vec![0; 3 * bytes.len() + 8]);
+            assert_eq!(answer.number, number, "{}", shown(&bytes));
+            tally.count(part.to_string());
+        }
     }
     let mut wanted = numbers(&[0, 1, 6, 7, 8, 9]);
+    wanted.extend(HIGH_BYTES.iter().map(|(part, ..)| part.to_string()));
     wanted.push("number  0, ignored 0".to_string());
     wanted.push("number  0, ignored more".to_string());
     tally.finish(&wanted);

@@ -5,6 +5,7 @@ mod common;
 
 use common::appendix_b::APPENDIX_B;
 use common::deep;
+use common::rfc_3492::SAMPLES;
 use orbendash_host as library;
 use orbendash_host::{
     outcome, reason, reference, status, FieldAnswer, JudgeAnswer, ReportAnswer, StripAnswer,
@@ -186,6 +187,68 @@ fn stripping() {
         kept.concat().as_bytes(),
         6,
     );
+}
+
+/// Whether a field with this identifier is removed where this entry is on the list.
+fn expect_listed(id: &str, entry: &str, listed: bool) {
+    let field = format!("Authentication-Results: {id}; none\r\n");
+    let list = format!("a\n{entry}\nb\n");
+    let kept = if listed { &b""[..] } else { field.as_bytes() };
+    expect_strip(field.as_bytes(), list.as_bytes(), kept, usize::from(listed));
+}
+
+#[test]
+fn samples_of_rfc_3492() {
+    for (text, punycode) in SAMPLES {
+        if text.contains(' ') {
+            // (S): no entry has a space, and its dot parts two labels.
+            expect_listed(&format!("\"xn--{punycode}\""), "->$1.00<-", false);
+            continue;
+        }
+        let a_label = format!("xn--{punycode}");
+        expect_listed(&a_label, text, true);
+        expect_listed(text, &a_label, true);
+        expect_listed(&format!("\"{a_label}\""), &a_label.to_uppercase(), true);
+        expect_listed(&format!("mx.{a_label}"), &format!("MX.{text}"), true);
+        expect_listed(&format!("mx.{a_label}"), text, false);
+        expect_listed(&format!("x{a_label}"), &format!("x{text}"), false);
+    }
+}
+
+#[test]
+fn international_labels() {
+    for (id, entry, listed) in [
+        ("xn--bcher-kva.example", "B\u{fc}cher.Example", true),
+        ("b\u{fc}cher.example", "XN--BCHER-KVA.EXAMPLE", true),
+        ("\"xn--\\bcher-kva\"", "b\u{fc}cher", true),
+        // Labels at the edges of the decoding.
+        ("\"\"", "xn--", true),
+        ("xn--example-.com", "example.com", true),
+        ("-", "xn----", true),
+        ("xn----", "xn-----", false),
+        ("xn---", "-", false),
+        ("xn---", "XN---", true),
+        ("xn--bcher-kv", "bcher", false),
+        ("xn--bcher-kva.", "b\u{fc}cher", false),
+        ("a.xn--.b", "a..b", true),
+        // Decoded once; and what can't be decoded is compared as it stands.
+        ("xn--xn--bcher-kva-", "b\u{fc}cher", false),
+        ("xn--xn--bcher-kva-", "xn--bcher-kva", false),
+        ("xn--b\u{fc}", "xn--xn--b-ova", true),
+        ("xn--b\u{fc}cher-kva", "XN--b\u{fc}CHER-KVA", true),
+        // The last code point, the number above it, and a surrogate.
+        ("xn--a-h023p", "A\u{10ffff}", true),
+        ("xn--a-j023p", "XN--A-J023P", true),
+        ("xn--a-j023p", "a", false),
+        ("xn--a-rc4g", "XN--A-RC4G", true),
+        ("xn--a-rc4g", "a", false),
+        // No case but ASCII's, no normalisation, no other dot.
+        ("xn--bcher-kva", "b\u{dc}cher", false),
+        ("\u{e9}", "e\u{301}", false),
+        ("a\u{3002}b", "a.b", false),
+    ] {
+        expect_listed(id, entry, listed);
+    }
 }
 
 fn expect_judge(block: &[u8], verdicts: &[u8], answer: JudgeAnswer) {

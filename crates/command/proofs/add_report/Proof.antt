@@ -13,8 +13,8 @@ slice-aggregate-report c = search needs
 report-requires : tie.Need-report-requires
 report-requires c κs = search needs
 
-whose-requires : tie.Need-whose-requires
-whose-requires c κs = search needs
+whose-spelled-requires : tie.Need-whose-spelled-requires
+whose-spelled-requires c κs = search needs
 
 add-field-requires : tie.Need-add-field-requires
 add-field-requires c κs = search needs
@@ -52,7 +52,7 @@ add-report-spec =
     (tie.spec
     slice-aggregate-report
     report-requires
-    whose-requires
+    whose-spelled-requires
     add-field-requires
     same-length
     returns

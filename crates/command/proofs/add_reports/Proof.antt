@@ -12,10 +12,10 @@ use Rattle.command.proofs.add_reports.Statement.{statement}
 use Rattle.command.proofs.add_reports.Tie as tie
 
 abbrev Inv-loop : tie.InvT-loop
-Inv-loop block list out₀ at₀ count₀ to₀ out at count to = (at ≤ length block) × (count ≤ at) × (to ≤ length out) × (length out ≡ length out₀)
+Inv-loop block own out₀ at₀ count₀ to₀ out at count to = (at ≤ length block) × (count ≤ at) × (to ≤ length out) × (length out ≡ length out₀)
 
 abbrev μ-loop : tie.MeasureT-loop
-μ-loop block list out₀ at₀ count₀ to₀ out at count to = length block - at
+μ-loop block own out₀ at₀ count₀ to₀ out at count to = length block - at
 
 -- the field that a turn takes
 step : (c : tie.After-known-told Inv-loop μ-loop)

@@ -13,8 +13,11 @@ use orbendash_host::reference;
 
 #[path = "../../tests/common/appendix_b.rs"]
 mod appendix_b;
+#[path = "../../tests/common/punycode.rs"]
+mod punycode;
 
 use appendix_b::APPENDIX_B;
+use punycode::a_label;
 
 const FULL: usize = 65_536;
 /// How long a row takes, and how many rounds it has at least.
@@ -364,6 +367,39 @@ fn near_misses(id: &str) -> Vec<u8> {
         .collect()
 }
 
+/// An A-label of so many bytes that decodes to a long run of one character and a last one, which is
+/// another for each number.
+fn long_a_label(bytes: usize, number: u32) -> String {
+    let last = char::from_u32(0x4e00 + number).expect("a character");
+    let mut text = String::from(last);
+    while a_label(&text).len() < bytes {
+        text.insert(0, '\u{e9}');
+    }
+    let label = String::from_utf8(a_label(&text)).expect("an A-label is ASCII");
+    assert_eq!(label.len(), bytes);
+    label
+}
+
+/// 64 entries of one A-label each, which decode to the same but for the last character.
+fn long_a_labels() -> Vec<u8> {
+    (0..64)
+        .flat_map(|number| format!("{}\n", long_a_label(255, number)).into_bytes())
+        .collect()
+}
+
+/// 64 entries of 255 bytes, of A-labels only, which decode to the same but for the last character.
+fn many_a_labels() -> Vec<u8> {
+    (0..64)
+        .flat_map(|number| {
+            let last = char::from_u32(0x100 + number).expect("a character");
+            let last = String::from_utf8(a_label(&last.to_string())).expect("ASCII");
+            let entry = format!("xn--{}-.{}{last}\n", "a".repeat(11), "xn--a-.".repeat(33));
+            assert_eq!(entry.len(), 256);
+            entry.into_bytes()
+        })
+        .collect()
+}
+
 /// A seal with so many bytes of tags that have nothing but distinct names.
 fn tags(size: usize, name: impl Fn(usize) -> String) -> Vec<u8> {
     let mut block = b"ARC-Seal: i=1; a=;b=;d=;s=;cv=none".to_vec();
@@ -401,6 +437,16 @@ const FIELDS: &[Filled] = &[
     ("one field, long quoted identifier", b"Authentication-Results:\"", b"\\x", b"\";none\r\n"),
     ("one field, thousands of results", b"Authentication-Results:a", b";spf=pass", b"\r\n"),
     ("one field of another name", b"X:", b"x", b"\r\n"),
+];
+
+/// The same with A-labels, for a list that has some.
+#[rustfmt::skip]
+const A_LABELS: &[Filled] = &[
+    ("one field, long A-label", b"Authentication-Results:xn--", b"a", b";none\r\n"),
+    ("one field, long A-label, quoted", b"Authentication-Results:\"xn--", b"\\a", b"\";none\r\n"),
+    ("one field, long basic part", b"Authentication-Results:xn--", b"x", b"-tda;none\r\n"),
+    ("one field, thousands of A-labels", b"Authentication-Results:", b"xn--tda.", b"a;none\r\n"),
+    ("one field, thousands of empty labels", b"Authentication-Results:", b"xn--.", b"a;none\r\n"),
 ];
 
 /// Bodies for report.
@@ -458,7 +504,20 @@ fn strip_rows(mail: &[u8]) {
         "Appendix B as a block",
         strip(appendix_b.concat().into_bytes(), own),
     );
+    let with_a_label = b"mx.example.com\nxn--bcher-kva.example\n";
+    realistic(
+        "mail of 30 fields, one A-label",
+        strip(mail.to_vec(), with_a_label),
+    );
+    let short: Vec<u8> = (0..64)
+        .flat_map(|n| format!("xn--bcher-kva.mx-{n}.example\n").into_bytes())
+        .collect();
+    realistic(
+        "mail of 30 fields, 64 A-labels",
+        strip(mail.to_vec(), &short),
+    );
     all_filled(FIELDS, |block| strip(block, own));
+    all_filled(A_LABELS, |block| strip(block, with_a_label));
     for (name, ids) in [
         ("512 fields, all kept", ["other.example", "another.example"]),
         ("512 fields, all removed", ["Example.COM", "example.com"]),
@@ -485,6 +544,35 @@ fn strip_rows(mail: &[u8]) {
     adversarial("near misses in 64 short entries", |size| {
         let start = |_| "Authentication-Results: mail.example.co!;".to_string();
         strip(fields(size, 512, start), &near_misses("mail.example.co"))
+    });
+    a_label_rows();
+}
+
+/// Lists of 64 A-labels of 255 bytes.
+fn a_label_rows() {
+    adversarial("512 fields, 64 long A-labels", |size| {
+        let start = |n| format!("Authentication-Results: {};", ["other.example", "a"][n % 2]);
+        strip(fields(size, 512, start), &long_a_labels())
+    });
+    let id = long_a_label(100, 64);
+    adversarial("512 A-labels, 64 long A-labels", |size| {
+        let start = |_| format!("Authentication-Results:{id};");
+        strip(fields(size, size / 128, start), &long_a_labels())
+    });
+    let id = format!("{}.{}xn--tda", "a".repeat(11), "a.".repeat(33));
+    adversarial("512 A-labels, near misses", |size| {
+        let start = |_| format!("Authentication-Results:{id};");
+        strip(fields(size, size / 128, start), &many_a_labels())
+    });
+    let id = long_a_label(255, 64);
+    adversarial("long A-labels, near misses", |size| {
+        let start = |_| format!("Authentication-Results:{id};");
+        strip(fields(size, size / 282, start), &long_a_labels())
+    });
+    adversarial("long A-labels, near misses, quoted", |size| {
+        let quoted: String = id.chars().flat_map(|c| ['\\', c]).collect();
+        let start = |_| format!("Authentication-Results:\"{quoted}\";");
+        strip(fields(size, size / 540, start), &long_a_labels())
     });
 }
 

@@ -2,6 +2,8 @@
 //! each rule kept and broken.
 
 use super::appendix_b::APPENDIX_B;
+use super::punycode::a_label;
+use super::rfc_3492::SAMPLES;
 use super::{deep, pad_block, LIMIT};
 
 /// Short blocks: line ends, lines, names, colons, continuation lines; identifiers to strip.
@@ -28,6 +30,7 @@ const BLOCKS: &[&[u8]] = &[
 const LISTS: &[&[u8]] = &[
     b"", b"\n", b"a", b"a\n", b"a\n\n", b"a\nb", b"a\r\n", b"a b\n", b"a\n b\n", b"!~\n",
     b"a\x7f\n", b"a\n\x80\n", b"\x00\n", b"example.com\nexample.com\n", b"EXAMPLE.COM\n",
+    b"\xc3\xbc\n", b"a\n\xc3\n\xbc\n", b"a\n\xc3\xbc", b"xn--tda\n\xc3\xbc\n", b"xn--\n", b"xn---\n",
 ];
 
 /// Short bodies: identifiers, header versions, the word none, methods and their versions,
@@ -207,6 +210,83 @@ pub fn lists() -> Vec<Vec<u8>> {
     lists
 }
 
+/// Labels behind their prefix: all of up to three digits and hyphens, and longer ones.
+pub fn punycode() -> Vec<Vec<u8>> {
+    const BYTES: &[u8] = b"abcdefghijklmnopqrstuvwxyz0123456789-";
+    let mut all = vec![Vec::new()];
+    let mut longest = 0;
+    for _ in 0..3 {
+        let from = std::mem::replace(&mut longest, all.len());
+        for index in from..longest {
+            for &byte in BYTES {
+                all.push([&all[index][..], &[byte]].concat());
+            }
+        }
+    }
+    for byte in 0..=255u8 {
+        if !matches!(byte, b'\n' | b'\r' | b'"' | b'\\' | 0..=31 | 127) {
+            for (before, after) in [("", ""), ("", "a"), ("a", ""), ("a-", "a"), ("a", "-a")] {
+                all.push([before.as_bytes(), &[byte], after.as_bytes()].concat());
+            }
+        }
+    }
+    all.extend(SAMPLES.map(|(_, punycode)| punycode.as_bytes().to_vec()));
+    all
+}
+
+/// Names as long as an entry may be, with the most labels or with the most code points, and what
+/// they are decoded to.
+pub fn long_names() -> Vec<(Vec<u8>, Vec<u8>)> {
+    let mut names = vec![
+        (b".".repeat(255), b".".repeat(255)),
+        (b"xn--.".repeat(51), b".".repeat(51)),
+        (b"xn----.".repeat(36), b"-.".repeat(36)),
+        (b"xn--a-.".repeat(36), b"A.".repeat(36)),
+        (b"xn--tda.".repeat(31), "\u{fc}.".repeat(31).into_bytes()),
+    ];
+    for last in 0..64 {
+        for point in ['\u{80}', '\u{800}', '\u{10fff0}'] {
+            // As many as the A-label has room for, and one other.
+            let mut name = point.to_string();
+            while a_label(&name).len() < 251 {
+                name.push(point);
+            }
+            let other = char::from_u32(u32::from(point) - 1 - last);
+            name.extend(other.filter(|&other| other >= '\u{80}'));
+            names.push((a_label(&name), name.into_bytes()));
+        }
+    }
+    names.retain(|(name, _)| name.len() <= 255);
+    names
+}
+
+/// One to four bytes from 128 up or ASCII, as they may come in UTF-8: all pairs, and longer ones
+/// with all bytes at which a rule begins or ends.
+pub fn utf8() -> Vec<Vec<u8>> {
+    const TELLING: &[u8] = &[
+        b'a', 0x80, 0x8f, 0x90, 0x9f, 0xa0, 0xbf, 0xc0, 0xc1, 0xc2, 0xdf, 0xe0, 0xe1, 0xec, 0xed,
+        0xee, 0xef, 0xf0, 0xf1, 0xf3, 0xf4, 0xf5, 0xf8, 0xff,
+    ];
+    let mut all = Vec::new();
+    for one in 128..=255 {
+        all.push(vec![one]);
+        for two in 33..=255 {
+            all.push(vec![one, two]);
+        }
+    }
+    for &one in TELLING {
+        for &two in TELLING {
+            for &three in TELLING {
+                all.push(vec![one, two, three]);
+                // What ends a sequence of two or three is tried above.
+                let fours = [b'a', 0x80, 0xbf, 0xc0, 0xff];
+                all.extend(fours.map(|four| vec![one, two, three, four]));
+            }
+        }
+    }
+    all
+}
+
 /// Bodies.
 pub fn bodies() -> Vec<Vec<u8>> {
     let mut bodies: Vec<Vec<u8>> = BODIES.iter().map(|bytes| bytes.to_vec()).collect();
@@ -241,6 +321,7 @@ pub fn bodies() -> Vec<Vec<u8>> {
             (b"a;none", b""),
             (b"a;none", b"x=y"),
             (b"a;spf=pass reason", b"x"),
+            (b"a;spf=pass reason=x", b"y"),
             (b"a;spf=pass", b"smtp.a=b"),
             (b"a;spf=pass smtp.a=x@b.c", b""),
         ] {

@@ -6,6 +6,9 @@
 
 pub mod appendix_b;
 pub mod edges;
+pub mod labels;
+pub mod punycode;
+pub mod rfc_3492;
 
 use std::fmt::Write;
 
@@ -214,9 +217,19 @@ pub const IDS: [&[u8]; 8] = [
 ];
 
 pub fn identifier(rng: &mut Rng, out: &mut Vec<u8>) {
-    match rng.below(10) {
-        0 => token(rng, out),
+    match rng.below(12) {
+        0 => {
+            token(rng, out);
+            // Here alone a token may have these.
+            for _ in 0..rng.pick(&[0, 0, 1, 3]) {
+                out.push(rng.between(128, 255) as u8);
+            }
+        }
         1 => quoted(rng, out),
+        10 | 11 => {
+            let id = labels::common_name(rng);
+            labels::bare_or_quoted(rng, &id, out);
+        }
         2 | 3 => {
             // The same text, quoted and partly escaped.
             let id = rng.pick(&IDS);
@@ -415,6 +428,42 @@ impl Body {
     }
 }
 
+/// A body with bytes from 128 up in one of its parts: the part, the body, and its number where the
+/// room is large enough.
+pub fn high_bytes(rng: &mut Rng) -> (&'static str, Vec<u8>, u8) {
+    let (part, number, before, after) = rng.pick(HIGH_BYTES);
+    let mut out = before.as_bytes().to_vec();
+    for _ in 0..rng.between(1, 3) {
+        out.push(rng.between(128, 255) as u8);
+    }
+    out.extend(after.bytes());
+    (part, out, number)
+}
+
+/// Parts of a body, the number with bytes from 128 up there, and what stands around them.
+#[rustfmt::skip]
+pub const HIGH_BYTES: &[(&str, u8, &str, &str)] = &[
+    ("128 up in the identifier", 0, "", "; spf=pass"),
+    ("128 up in the identifier", 0, "(c) xn--", "a.example 1;none"),
+    ("128 up in the identifier", 8, "a", "b 2"),
+    ("128 up after the identifier", 7, "\"a\"", "; spf=pass"),
+    ("128 up in a header version", 9, "a 1", "; spf=pass"),
+    ("128 up in a method", 9, "a; s", "pf=pass"),
+    ("128 up in a method version", 9, "a; spf/1", "=pass"),
+    ("128 up in a result", 9, "a; spf=pa", "ss"),
+    ("128 up in a reason", 9, "a; spf=pass reason=", ""),
+    ("128 up in a reason", 9, "a; spf=pass reason=x", "y smtp.a=b"),
+    ("128 up in a quoted reason", 0, "a; spf=pass reason=\"x", "y\" smtp.a=b"),
+    ("128 up in a ptype", 9, "a; spf=pass sm", "tp.a=b"),
+    ("128 up in a property", 9, "a; spf=pass smtp.a", "=b"),
+    ("128 up in a value", 9, "a; spf=pass smtp.a=", ""),
+    ("128 up in a value", 9, "a; spf=pass smtp.a=x", "y; spf=fail"),
+    ("128 up in a quoted value", 0, "a; spf=pass smtp.a=\"", "\""),
+    ("128 up in a local part", 9, "a; spf=pass smtp.a=x", "y@b.c"),
+    ("128 up in a domain", 9, "a; spf=pass smtp.a=x@b", ".c"),
+    ("128 up in a comment", 0, "a; spf=pass (", ")"),
+];
+
 /// The space, identifier and gap that come before a header version.
 pub fn before_version(rng: &mut Rng) -> Vec<u8> {
     let mut out = Vec::new();
@@ -472,6 +521,8 @@ pub fn list(rng: &mut Rng) -> Vec<u8> {
         if rng.chance(2) {
             let length = rng.pick(&[254, 255, 256, 300]);
             out.resize(out.len() + length, b'l');
+        } else if rng.chance(20) {
+            out.extend(labels::common_name(rng));
         } else {
             let id = rng.pick(&IDS);
             cased(rng, id, &mut out);
@@ -486,6 +537,10 @@ pub fn list(rng: &mut Rng) -> Vec<u8> {
             b"a\r\n",
             b"a\x7f\n",
             b"\x80\n",
+            b"\xc3",
+            b"\xc3\n\xbc\n",
+            b"\xed\xa0\x80\n",
+            b"\xc3\xbc\n",
             b" \n",
         ]);
         out.extend(rest);
