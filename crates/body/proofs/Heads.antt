@@ -126,7 +126,7 @@ pub stated-steady : Steady stated (Ends digits)
 unfolding stated
 stated-steady = then-steady gap (λ u. readDigits) (Ends space) (Ends digits) gap-steady (λ u. digits-steady) (λ u. digits-solid)
 
-closed-stated : (t : List ℕ) → Closed t → stated t ≡ nothing
+pub closed-stated : (t : List ℕ) → Closed t → stated t ≡ nothing
 unfolding stated
 closed-stated t g = closed-gap readDigits (inClass Digit) no-digit digits-opens t g
   where

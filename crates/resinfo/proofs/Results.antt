@@ -233,11 +233,11 @@ keyword-open : inClass Keyword 59 ≡ false
 unfolding opened
 keyword-open = refl
 
-closed-reason : (t : List ℕ) → Closed t → reason t ≡ nothing
+pub closed-reason : (t : List ℕ) → Closed t → reason t ≡ nothing
 unfolding reason
 closed-reason t g = closed-gap _ (inClass Keyword) keyword-open (bind-opens (readWord (bytes "reason")) _ (Starts (inClass Keyword)) (word-opens (bytes "reason"))) t g
 
-closed-property : (t : List ℕ) → Closed t → property t ≡ nothing
+pub closed-property : (t : List ℕ) → Closed t → property t ≡ nothing
 unfolding property
 closed-property t g = closed-gap _ (inClass Keyword) keyword-open (bind-opens readKeyword Named (Starts (inClass Keyword)) keyword-opens) t g
 

@@ -76,7 +76,7 @@ module _ (f : List ℕ → Value) where
       then-steady (byte 64) (λ u. _>>=_ (text domain) (λ d. give (f d))) Any Delimited (byte-steady 64)
       (λ u. map-steady (text domain) f Delimited domain-steady) (λ u xs a n h. tt)
 
-no-at : (t : List ℕ) → Delimited t → next 64 t ≡ false
+pub no-at : (t : List ℕ) → Delimited t → next 64 t ≡ false
 unfolding inClass oneOf
 no-at t g =
     follows-not (λ b. eqb b 64) t
@@ -168,7 +168,7 @@ token-value-within : Within 1 tokenValue
 unfolding tokenValue
 token-value-within = bind-within 1 (text token) (λ t. give (tokenIs t)) (text-within token (run-fits (inClass class.Token))) (λ t. give-within (tokenIs t))
 
-token-value-opens : Opens tokenValue (Starts (inClass class.Token))
+pub token-value-opens : Opens tokenValue (Starts (inClass class.Token))
 unfolding tokenValue
 token-value-opens =
     bind-opens (text token) (λ t. give (tokenIs t)) (Starts (inClass class.Token)) (text-opens token (Starts (inClass class.Token)) (run-first (inClass class.Token)))
@@ -180,11 +180,11 @@ token-value-steady =
     (steady-weaker (text token) (Ends token) Delimited (delimited-ends (inClass class.Token) refl) (text-steady token (Ends token) token-local))
 
 -- every byte of a token may stand in a local part
-token-bound : (b : ℕ) → inClass class.Token b ≡ true → b < 127
+pub token-bound : (b : ℕ) → inClass class.Token b ≡ true → b < 127
 unfolding inClass within
 token-bound b e = omega (arith, leb-true b 126 (and-right (leb 33 b) (leb b 126) (and-left (leb 33 b && leb b 126) _ e)))
 
-implied : (a b : Bool) → T (not a || b) → a ≡ true → b ≡ true
+pub implied : (a b : Bool) → T (not a || b) → a ≡ true → b ≡ true
 implied true true t e = refl
 implied true false t e = absurd t
 implied false b t e = absurd (no-true e)
@@ -195,7 +195,7 @@ token-in-local b e =
     implied (inClass class.Token b) (inLocalPart b) (tested-at (λ b. not (inClass class.Token b) || inLocalPart b) 127 b tt (token-bound b e)) e
 
 -- behind a token with what may follow it, no "@" follows the longer run
-token-no-at : (xs : List ℕ) (a : Value) (n : ℕ) → tokenValue xs ≡ got a n → Delimited (drop n xs) → atBehind xs ≡ false
+pub token-no-at : (xs : List ℕ) (a : Value) (n : ℕ) → tokenValue xs ≡ got a n → Delimited (drop n xs) → atBehind xs ≡ false
 unfolding tokenValue atBehind opened
 token-no-at xs a n h g =
     let v = bind-inv (text token) (λ t. give (tokenIs t)) xs a n h in
@@ -212,13 +212,13 @@ token-no-at xs a n h g =
 abbrev unaddressed : Parser Value
 unaddressed = branch (next 34) quotedValue tokenValue
 
-quote-no-at : (xs : List ℕ) → Starts (λ b. eqb b 34) xs → atBehind xs ≡ false
+pub quote-no-at : (xs : List ℕ) → Starts (λ b. eqb b 34) xs → atBehind xs ≡ false
 unfolding atBehind opened
 quote-no-at xs s =
     let m : run inLocalPart xs ≡ 0 = listed-ends (34 ∷ []) inLocalPart refl xs (starts-weaker (λ b. eqb b 34) (oneOf (34 ∷ [])) (λ b e. rw e) xs s) in
     rw m (next-not 34 (λ b. eqb b 64) refl xs s)
 
-token-no-quote : (xs : List ℕ) → Starts (inClass class.Token) xs → next 34 xs ≡ false
+pub token-no-quote : (xs : List ℕ) → Starts (inClass class.Token) xs → next 34 xs ≡ false
 unfolding opened
 token-no-quote xs s =
     follows-not (λ b. eqb b 34) xs
