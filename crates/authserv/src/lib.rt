@@ -36,7 +36,7 @@ pub fn delimited(s: &[u8], at: usize) -> bool
 }
 
 // Whether a byte may stand in the token of an identifier.
-fn in_identifier(b: u8) -> bool
+pub fn in_identifier(b: u8) -> bool
     ensures { λ r. ⌜ r ≡ identifierByte b ⌝ }
 {
     if b >= 128 {

@@ -56,7 +56,7 @@ fn local_word(b: u8) -> u64
 }
 
 // Whether a byte may stand in a local part.
-fn in_local_part(b: u8) -> bool
+pub fn in_local_part(b: u8) -> bool
     ensures { λ r. ⌜ r ≡ inLocalPart b ⌝ }
 {
     (local_word(b) >> (b % 64)) % 2 == 1
@@ -88,7 +88,7 @@ fn is_doubled(dot: bool, b: u8) -> bool
 }
 
 // Whether a text isn't empty and has no leading, trailing or doubled dot.
-fn has_single_dots(l: &[u8]) -> bool
+pub fn has_single_dots(l: &[u8]) -> bool
     ensures { λ r. ⌜ r ≡ singleDots true (now (l .entry)) ⌝ }
 {
     let mut dot = true;
@@ -190,7 +190,7 @@ fn domain_run_end(s: &[u8], at: usize) -> usize
 }
 
 // The end of a domain.
-fn domain_end(s: &[u8], at: usize) -> usize
+pub fn domain_end(s: &[u8], at: usize) -> usize
     ensures { λ r. ⌜ r ≡ at + domain (drop at (now (s .entry))) ⌝ }
 {
     let e = domain_run_end(s, at);

@@ -1,0 +1,141 @@
+-- The answers, one law for each way out of the code: lines that are refused leave the buffer as it is, and those that are accepted fill its
+-- front with exactly their body, copied from the first pass's buffer where it fits that, and else written by a second pass, which is lent as
+-- much room as the first one measured. Assumes nothing.
+use Prim.Native.Nat.{ℕ, _+_, _≤_, _<_, min}
+use native.Mathlib.Omega.{arith}
+use mathlib.Core.Path.{_≡_, sym, ap, _∙_}
+use mathlib.Core.List.{List, [], _++_, append-nil}
+use borrow.Author.Tests.{le-leb, lt-leb}
+use lib.ListN.{length, take, drop, drop-of-length-le}
+use lib.Seq.{sets, length-take-le, take-append-seam}
+use Rattle.sequences.specs.Stored.{Put}
+use Rattle.sequences.proofs.Splices.{sets-front}
+use Rattle.reading.specs.Walks.{Walked}
+use Rattle.lexis.specs.Limits.{byteLimit}
+use Rattle.compose.specs.Entries.{Entry}
+use Rattle.compose.specs.Bodies.{bodyOf}
+use Rattle.compose.specs.Compose.{front, entries, refusal, sized, answer, compose}
+use Rattle.compose.proofs.Runs.{Walk, accepted, refused, walk}
+use Rattle.writing.specs.declared.Lines.{Lines}
+use Rattle.writing.specs.declared.Written.{Written}
+use Rattle.writing.specs.Answers.{answerOf, leaves}
+use Rattle.pieces.specs.Internal.{cap, Clipped}
+use Rattle.writing.specs.Internal.{LinesPut}
+
+-- a walk that isn't refused ends well
+ends-well : (s : List ℕ) → (entries s .number ≡ 11 → ⊥) → entries s .number ≡ 0
+ends-well s ne = go (walk front 1 s)
+  where
+    go : Walk front 1 s → entries s .number ≡ 0
+    go (accepted es t r k f d w) = ap (λ (x : Walked Entry). x .number) w
+    go (refused es t rest r k x d w) = absurd (ne (ap (λ (x : Walked Entry). x .number) w))
+
+module _ (room : ℕ) (w : Walked Entry) where
+  answer-refused : w .number ≡ 11 → answer room w ≡ refusal 11 (w .place)
+  unfolding answer
+  answer-refused e = rw (answer, e)
+
+  module _ (e : w .number ≡ 0) where
+    sized-is : answer room w ≡ sized room (bodyOf (w .items))
+    unfolding answer
+    sized-is = rw (answer, e)
+
+    answer-long : byteLimit < length (bodyOf (w .items)) → answer room w ≡ refusal 1 0
+    unfolding sized
+    answer-long l = sized-is ∙ rw (sized, lt-leb (length (bodyOf (w .items))) byteLimit l)
+
+    module _ (l : length (bodyOf (w .items)) ≤ byteLimit) where
+      answer-short : room < length (bodyOf (w .items)) → answer room w ≡ refusal 6 (length (bodyOf (w .items)))
+      unfolding sized
+      answer-short h = sized-is ∙ rw (sized, le-leb (length (bodyOf (w .items))) byteLimit l, lt-leb (length (bodyOf (w .items))) room h)
+
+      answer-fits : length (bodyOf (w .items)) ≤ room → answer room w ≡ record { number = 0; place = 0; written = bodyOf (w .items) }
+      unfolding sized
+      answer-fits h = sized-is ∙ rw (sized, le-leb (length (bodyOf (w .items))) byteLimit l, le-leb (length (bodyOf (w .items))) room h)
+
+short : {a b : ℕ} → a ≡ b → a ≤ b
+short e = omega (arith, e)
+
+-- a front of a buffer is lent or copied
+pub front-long : (l : List ℕ) (n : ℕ) → n ≤ length l → n ≡ length (take n l)
+front-long l n h = sym (length-take-le n l h)
+
+pub front-room : (l : List ℕ) (n : ℕ) → n ≤ length l → n ≤ cap → length (take n l) ≤ cap
+front-room l n h k = omega (arith, length-take-le n l h)
+
+pub scratch-long : {w : Walked Entry} {own scratch : List ℕ} {m : Lines} → LinesPut w own scratch m → m .next ≤ length own → m .next ≤ length scratch
+scratch-long k l = omega (arith, l, k .long)
+
+-- ==== one law for each way out: m is what the first pass answers, which runs on a buffer of its own
+
+-- an answer, and what it leaves
+abbrev pub Answered : List ℕ → List ℕ → List ℕ → Written → Type 0
+Answered s old new r = (r ≡ answerOf (compose s (length old))) × (new ≡ leaves (compose s (length old)) old)
+
+module _ (s old : List ℕ) where
+  refuses : (n p : ℕ) → compose s (length old) ≡ refusal n p → Answered s old old (record { number = n; place = p; written = 0 })
+  refuses n p q = (rw q, rw q)
+
+  module _ (own scratch : List ℕ) (m : Lines) (k : LinesPut (entries s) own scratch m) where
+    pub answer-11 : m .number ≡ 11 → Answered s old old (record { number = 11; place = m .place; written = 0 })
+    unfolding compose
+    answer-11 z = refuses 11 (m .place) (answer-refused (length old) (entries s) (sym (k .number) ∙ z) ∙ ap (refusal 11) (sym (k .place)))
+
+    module _ (ne : m .number ≡ 11 → ⊥) where
+      well : entries s .number ≡ 0
+      well = ends-well s (λ e. ne (k .number ∙ e))
+
+      clip : Clipped own 0 (bodyOf (entries s .items)) scratch (m .next)
+      clip = k .put (k .number ∙ well)
+
+      pub answer-1 : m .next ≡ cap → Answered s old old (record { number = 1; place = 0; written = 0 })
+      unfolding compose
+      answer-1 z = refuses 1 0 (answer-long (length old) (entries s) well (omega (arith, clip .place, z)))
+
+      pub next-low : m .next ≤ cap
+      next-low = omega (arith, clip .place)
+
+      module _ (nc : m .next ≡ cap → ⊥) where
+        needed : m .next ≡ length (bodyOf (entries s .items))
+        needed = go (clip .place) nc
+          where
+            go : m .next ≡ min (0 + length (bodyOf (entries s .items))) cap → (m .next ≡ cap → ⊥) → m .next ≡ length (bodyOf (entries s .items))
+            go e f = omega (arith, e, f)
+
+        low : length (bodyOf (entries s .items)) ≤ byteLimit
+        low = omega (arith, needed, clip .place, nc)
+
+        pub answer-6 : length old < m .next → Answered s old old (record { number = 6; place = m .next; written = 0 })
+        unfolding compose
+        answer-6 l = refuses 6 (m .next) (answer-short (length old) (entries s) well low (rw needed at l) ∙ ap (refusal 6) (sym needed))
+
+        module _ (l : m .next ≤ length old) where
+          -- all of it is written over the front
+          fills : (new : List ℕ) → new ≡ bodyOf (entries s .items) ++ drop (length (bodyOf (entries s .items))) old
+              → Answered s old new (record { number = 0; place = 0; written = m .next })
+          unfolding compose
+          fills new b =
+              let q : compose s (length old) ≡ record { number = 0; place = 0; written = bodyOf (entries s .items) } =
+              answer-fits (length old) (entries s) well low (rw needed at l) in
+              (rw (q, needed), rw q b)
+
+          -- it is copied from the first pass's buffer
+          pub answer-copied : m .next ≤ length own → (new : List ℕ) (n : ℕ) → Put old 0 (take (m .next) scratch) new n
+              → Answered s old new (record { number = 0; place = 0; written = m .next })
+          answer-copied f new n c =
+              let b : scratch ≡ bodyOf (entries s .items) ++ drop (length (bodyOf (entries s .items))) own =
+              clip .bytes ∙ sets-front own (bodyOf (entries s .items)) (rw needed at f) in
+              let t : take (m .next) scratch ≡ bodyOf (entries s .items) =
+              rw (needed, b) (take-append-seam (bodyOf (entries s .items)) (drop (length (bodyOf (entries s .items))) own)) in
+              fills new (c .bytes ∙ (ap (sets old 0) t ∙ sets-front old (bodyOf (entries s .items)) (rw needed at l)))
+
+          -- it is written by a second pass, which is lent as much as it takes
+          pub answer-written : (out : List ℕ) (r : Lines) → LinesPut (entries s) (take (m .next) old) out r
+              → Answered s old (out ++ drop (m .next) old) (record { number = 0; place = 0; written = m .next })
+          answer-written out r d =
+              let f : length (take (m .next) old) ≡ length (bodyOf (entries s .items)) = length-take-le (m .next) old l ∙ needed in
+              let c : Clipped (take (m .next) old) 0 (bodyOf (entries s .items)) out (r .next) = d .put (d .number ∙ well) in
+              let e : drop (length (bodyOf (entries s .items))) (take (m .next) old) ≡ [] = drop-of-length-le (take (m .next) old) (short f) in
+              let t : out ≡ bodyOf (entries s .items) =
+              c .bytes ∙ (sets-front (take (m .next) old) (bodyOf (entries s .items)) (omega (arith, f)) ∙ (ap (λ (x : List ℕ). bodyOf (entries s .items) ++ x) e ∙ append-nil (bodyOf (entries s .items)))) in
+              fills (out ++ drop (m .next) old) (rw (t, needed))
