@@ -1,12 +1,14 @@
 /*
- * Strips a header block, reports what is left, and judges its ARC chain.
+ * Strips a header block, reports what is left, judges its ARC chain, and writes a field of our
+ * own that says what became of it.
  *
  *   cc -o example example.c ../../target/staticlib/liborbendash.a
  *   ./example BLOCK IDENTIFIER...
  *
  * BLOCK is a file with a header block: lines ended by CRLF, without the empty line after it.
- * The identifiers are our own, as mx.example.com. One with international labels may be given in
- * UTF-8 or with its A-labels, as xn--bcher-kva.example: either strips the fields of both.
+ * The identifiers are our own, as mx.example.com; our field has the first. One with international
+ * labels may be given in UTF-8 or with its A-labels, as xn--bcher-kva.example: either strips the
+ * fields of both.
  */
 #include "orbendash.h"
 
@@ -20,6 +22,8 @@ static uint8_t kept[ORBENDASH_BYTES];
 static uint8_t report[ORBENDASH_REPORT_ROOM(ORBENDASH_BYTES)];
 static uint8_t list[ORBENDASH_LIST_BYTES];
 static uint8_t verdicts[ORBENDASH_INSTANCES];
+static uint8_t lines[3 * ORBENDASH_LIST_BYTES + 32];
+static uint8_t body[ORBENDASH_BYTES];
 
 static int refused(const char *call, unsigned number, size_t place) {
     fprintf(stderr, "%s: answer %u at %zu\n", call, number, place);
@@ -30,6 +34,27 @@ static int is_named(const uint8_t *from, const orbendash_field_answer *field, co
     size_t length = field->name_end - field->start;
     return length == strlen(name) &&
            strncasecmp((const char *)from + field->start, name, length) == 0;
+}
+
+/* Writes our own field from two report lines: an identifier from our list, which is no longer
+   than that, and the status of the chain. In a text of a report a byte outside 33 to 126, and %,
+   is % and two hex digits. */
+static int write_field(const char *identifier, const char *status) {
+    char *to = (char *)lines;
+    size_t length = (size_t)sprintf(to, "id\t");
+    for (const char *from = identifier; *from != 0; from++) {
+        uint8_t byte = (uint8_t)*from;
+        int plain = byte > 32 && byte < 127 && byte != '%';
+        length += (size_t)sprintf(to + length, plain ? "%c" : "%%%02X", byte);
+    }
+    length += (size_t)sprintf(to + length, "\nm\tarc\t%s\n", status);
+    orbendash_write_answer answer = orbendash_write(lines, length, body, sizeof body);
+    if (answer.number != ORBENDASH_DONE)
+        return refused("write", answer.number, answer.place);
+    printf("Authentication-Results:");
+    fwrite(body, 1, answer.written, stdout);
+    printf("\r\n");
+    return 0;
 }
 
 int main(int count, char **words) {
@@ -110,6 +135,10 @@ int main(int count, char **words) {
     if (chain.has_oldest_pass)
         printf(", oldest-pass %zu", chain.oldest_pass);
     printf("\n");
+
+    int wrote = count > 2 ? write_field(words[2], statuses[chain.status]) : ORBENDASH_DONE;
+    if (wrote != ORBENDASH_DONE)
+        return wrote;
     if (fflush(stdout) != 0 || ferror(stdout)) {
         perror("standard output");
         return 74;

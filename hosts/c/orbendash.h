@@ -1,9 +1,9 @@
 /*
  * Orbendash: Authentication-Results and ARC header fields for mail gateways.
  *
- * Four calls, each on bytes that the caller owns: strip forged fields from a header block,
- * report one field body, judge the ARC chain of a block, and walk a block's fields. Link with
- * liborbendash.a.
+ * Five calls, each on bytes that the caller owns: strip forged fields from a header block,
+ * report one field body, write one from its report, judge the ARC chain of a block, and walk a
+ * block's fields. Link with liborbendash.a.
  *
  * Any bytes may be handed in. Every call ends, keeps nothing, and answers with a struct by
  * value. A header block has no empty line after it, and its lines end with CRLF.
@@ -46,7 +46,8 @@ enum {
 enum {
     /* Done. Place 0. */
     ORBENDASH_DONE = 0,
-    /* The block or body is over ORBENDASH_BYTES bytes. Place 0. */
+    /* The block or body is over ORBENDASH_BYTES bytes, or the body to be written would be. Place
+       0. */
     ORBENDASH_TOO_LONG = 1,
     /* A CR without LF, an LF without CR, or a last line without CRLF. Place: that byte; for an
        unfinished line the block's length. */
@@ -70,7 +71,11 @@ enum {
     /* The body isn't well-formed. Place 0. */
     ORBENDASH_BAD_BODY = 9,
     /* The verdicts don't fit the chain. Place 0. */
-    ORBENDASH_BAD_VERDICTS = 10
+    ORBENDASH_BAD_VERDICTS = 10,
+    /* No well-formed body without ignored results has these lines as its report. Place: the
+       first line, from 1, up to which they can begin no such report; where they only stop too
+       early, one more than their count. */
+    ORBENDASH_BAD_LINES = 11
 };
 
 /* ---- Strip ---- */
@@ -143,6 +148,39 @@ typedef struct {
  */
 orbendash_report_answer orbendash_report(const uint8_t *body, size_t body_length,
                                          uint8_t *out, size_t out_length);
+
+/* ---- Write ---- */
+
+typedef struct {
+    uint8_t number; /* 0, 1, 6 or 11 */
+    size_t place;   /* see the numbers */
+    size_t written; /* bytes written */
+} orbendash_write_answer;
+
+/*
+ * Writes the body of an Authentication-Results field of our own to out, from report lines. A
+ * field is the name, a colon, the body and CRLF.
+ *
+ * The lines are as orbendash_report writes them: id, then none alone, or one or more m, each
+ * followed by an r if the result has a reason and by a p for each property. Each ends with LF,
+ * also the last. Methods, results, ptypes and properties are known ones in lower case (a
+ * property may be any keyword), texts are coded as in a report, and a v line is refused. The
+ * lines may be of any length.
+ *
+ * The body starts with one space. "; " stands before none and before each result, one space
+ * before each reason and property, and there is no other space and no folding. Identifier,
+ * reason and the local part of a mailbox are bare where they can be, else quoted strings; in
+ * these only the quote and the backslash are escaped. The body's report is these very lines,
+ * with an ignored count of zero.
+ *
+ * An output of ORBENDASH_BYTES bytes is always long enough; number 6 tells how many this body
+ * needs.
+ *
+ * The first of these that applies is the number: 11 no body has that report; 1 the body would be
+ * too long; 6 no room; 0 done.
+ */
+orbendash_write_answer orbendash_write(const uint8_t *lines, size_t lines_length,
+                                       uint8_t *out, size_t out_length);
 
 /* ---- Judge ---- */
 

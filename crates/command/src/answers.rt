@@ -1,6 +1,6 @@
 // The one line on standard error with which the command ends:
 //   orbendash: NUMBER: meaning, at PLACE
-// for a refusal with a number of 01, the same without a place for the command's own numbers, and
+// for a refusal with a number of 01 or 02, the same without a place for the command's own numbers, and
 //   orbendash: 0: done
 // where all of the output has been written. Each is written in one call. `bin/orbendash` takes the exit status from this line and takes its
 // absence for a failure, so nothing that goes wrong on the way can look like success.
@@ -25,7 +25,7 @@ pub fn done() {
 // Wrong usage.
 pub fn usage() {
     say(
-        b"orbendash: 64: usage: orbendash strip LIST < BLOCK, orbendash report LIST < BLOCK or orbendash --help\n",
+        b"orbendash: 64: usage: orbendash strip LIST < BLOCK, orbendash report LIST < BLOCK, orbendash write < LINES or orbendash --help\n",
     );
 }
 
@@ -39,9 +39,14 @@ pub fn list_unread() {
     say(b"orbendash: 66: the list can't be read\n");
 }
 
-// A read of the block failed.
-pub fn block_unread() {
+// A read of the block or of the lines failed.
+pub fn input_unread() {
     say(b"orbendash: 74: standard input can't be read\n");
+}
+
+// There are more lines than are read.
+pub fn input_too_long() {
+    say(b"orbendash: 74: standard input can't be read whole: it has more than 262,144 bytes\n");
 }
 
 // The output does not fit its buffer. That can't be, by the limits; if it ever is, nothing is written.
@@ -137,17 +142,50 @@ fn add_meaning(number: u8, place: usize, list: &[u8], out: &mut [u8], at: usize)
     super::lines::add(b"the output is too long", out, at)
 }
 
-// A refusal by a number of 01; for 5 the list is looked at once more for what is wrong with its entry.
-pub fn refuse(number: u8, place: usize, list: &[u8]) {
-    let mut line = [0u8; LINE];
-    let mut at = super::lines::add(b"orbendash: ", &mut line, 0);
-    at = super::lines::add_number(super::lines::wide(number), &mut line, at);
-    at = super::lines::add(b": ", &mut line, at);
-    at = add_meaning(number, place, list, &mut line, at);
-    at = super::lines::add(b", at ", &mut line, at);
-    at = super::lines::add_number(place as u64, &mut line, at);
-    at = super::lines::add(b"\n", &mut line, at);
+// Adds what a number means where lines are handed in, and what its place counts.
+fn add_lines_meaning(number: u8, out: &mut [u8], at: usize) -> usize
+    ensures { λ r. ⌜ r ≤ length (now (out .exit)) ⌝ }
+{
+    if number == 11 {
+        return super::lines::add(b"no body has that report, at line ", out, at);
+    }
+    if number == 1 {
+        return super::lines::add(b"the body would have more than 65,536 bytes, at ", out, at);
+    }
+    super::lines::add(b"the output is too long, at ", out, at)
+}
+
+// Begins the line of a refusal.
+fn begin(number: u8, line: &mut [u8]) -> usize
+    ensures { λ r. ⌜ r ≤ length (now (line .exit)) ⌝ }
+{
+    let mut at = super::lines::add(b"orbendash: ", line, 0);
+    at = super::lines::add_number(super::lines::wide(number), line, at);
+    super::lines::add(b": ", line, at)
+}
+
+// Ends the line of a refusal with its place, and writes it.
+fn end(place: usize, line: &mut [u8], from: usize) {
+    let mut at = super::lines::add_number(place as u64, line, from);
+    at = super::lines::add(b"\n", line, at);
     if at <= line.len() {
         say(&line[..at]);
     }
+}
+
+// A refusal of a block or a list by a number of 01; for 5 the list is looked at once more for what is wrong with its entry.
+pub fn refuse(number: u8, place: usize, list: &[u8]) {
+    let mut line = [0u8; LINE];
+    let mut at = begin(number, &mut line);
+    at = add_meaning(number, place, list, &mut line, at);
+    at = super::lines::add(b", at ", &mut line, at);
+    end(place, &mut line, at);
+}
+
+// A refusal of report lines by a number of 02.
+pub fn refuse_lines(number: u8, place: usize) {
+    let mut line = [0u8; LINE];
+    let mut at = begin(number, &mut line);
+    at = add_lines_meaning(number, &mut line, at);
+    end(place, &mut line, at);
 }

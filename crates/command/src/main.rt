@@ -1,13 +1,14 @@
 // The command: `command strip LIST` writes the block on standard input without the Authentication-Results fields that speak in our own name
 // or in none; `command report LIST` writes what each Authentication-Results field of it says. LIST is a file with our own identifiers, one to
-// a line.
+// a line. `command write` writes the body of a field of our own from the report lines on standard input.
 //
 // A report has for each such field, in the block's order, the line
 //   field <tab> its number among all fields, from 1 <tab> own, other or unreadable <tab> answer number <tab> ignored results
-// and then the field's own report (see `report::report`). It is put together whole and written then. A refusal writes nothing to standard
-// output. One line on standard error says how it ended (`answers.rt`): with the numbers of 01, or 64 for wrong usage, 66 for a list that can't
-// be opened or read, 70 for a failure of the program, 74 for a block that can't be read or an output that can't be written; 0 only where all of
-// the output has been written.
+// and then the field's own report (see `report::report`). It is put together whole and written then. A body is written as it is, with no
+// name before it and no CRLF after it (see `writing::write`). A refusal writes nothing to standard output. One line on standard error says how
+// it ended (`answers.rt`): with the numbers of 01 and 02, or 64 for wrong usage, 66 for a list that can't be opened or read, 70 for a failure
+// of the program, 74 for an input that can't be read, or not whole, or an output that can't be written; 0 only where all of the output has been
+// written.
 mod answers;
 mod lines;
 mod transfer;
@@ -35,6 +36,11 @@ const REPORT: usize = 3 * Cursor::BYTES + 4;
 
 // A room that the reports of all fields of a block fit, and one byte more: for each field its line of less than 60 bytes, and four.
 const REPORTS: usize = 3 * Cursor::BYTES + 64 * Walk::FIELDS + 1;
+
+// The most bytes of report lines that are read, and one more to tell that there are more. A body that may be written has lines of at most
+// `REPORT` bytes; whether longer ones are refused with 11 or with 1 can only be told from all of them, so what isn't read whole gets a refusal
+// of its own.
+const LINES: usize = 4 * Cursor::BYTES + 1;
 
 // Writes the output. Only where all of it went does the command say that it is done.
 fn put(text: &[u8]) {
@@ -186,7 +192,7 @@ fn run(list_file: i32, strips: bool) {
     let mut block = [0u8; BLOCK];
     let fields = transfer::read_whole(STDIN_FILENO, &mut block);
     if !fields.whole {
-        return answers::block_unread();
+        return answers::input_unread();
     }
     let m = entries.length;
     let n = fields.length;
@@ -206,6 +212,33 @@ fn with_list(strips: bool) {
     }
     run(file, strips);
     libc::close(file);
+}
+
+// Writes the body that has these lines as its report.
+fn write_body(lines: &[u8]) {
+    let mut out = [0u8; BLOCK];
+    let r = writing::write(lines, &mut out);
+    if r.number != 0 {
+        return answers::refuse_lines(r.number, r.place);
+    }
+    if r.written <= out.len() {
+        return put(&out[..r.written]);
+    }
+    answers::too_long();
+}
+
+// Reads report lines, and writes their body where there are no more of them than were read.
+fn with_lines() {
+    let mut lines = [0u8; LINES];
+    let input = transfer::read_whole(STDIN_FILENO, &mut lines);
+    if !input.whole {
+        return answers::input_unread();
+    }
+    let n = input.length;
+    if n >= LINES {
+        return answers::input_too_long();
+    }
+    write_body(&lines[..n]);
 }
 
 // Whether two texts are the same, byte by byte.
@@ -230,15 +263,26 @@ fn asks(word: &[u8]) -> bool {
     is_same(&text[..n], word)
 }
 
-fn main() {
-    if os::arg_count() != 3 {
-        return answers::usage();
-    }
+// The modes that take a list.
+fn listed() {
     if asks(b"strip") {
         return with_list(true);
     }
     if asks(b"report") {
         return with_list(false);
+    }
+    answers::usage();
+}
+
+fn main() {
+    let words = os::arg_count();
+    if words == 3 {
+        return listed();
+    }
+    if words == 2 {
+        if asks(b"write") {
+            return with_lines();
+        }
     }
     answers::usage();
 }

@@ -7,13 +7,17 @@ use Rattle.strip.specs.Answers as stripping
 use Rattle.body.specs.Report as report
 use Rattle.report.specs.declared.Reported.{Reported}
 use Rattle.report.specs.Answers as reporting
+use Rattle.compose.specs.Compose as compose
+use Rattle.writing.specs.declared.Written.{Written}
+use Rattle.writing.specs.Answers as writing
 use Rattle.arc.specs.declared.Judged.{Judged}
 use Rattle.arc.specs.Chain as arc
 use Rattle.arc.specs.Answers as judging
 use Rattle.orbendash.specs.declared.StripFace.{StripFace}
 use Rattle.orbendash.specs.declared.ReportFace.{ReportFace}
+use Rattle.orbendash.specs.declared.WriteFace.{WriteFace}
 use Rattle.orbendash.specs.declared.JudgeFace.{JudgeFace}
-use Rattle.orbendash.specs.Faces.{stripFace, reportFace, hasOldestPass, judgeFace}
+use Rattle.orbendash.specs.Faces.{stripFace, reportFace, writeFace, hasOldestPass, judgeFace}
 
 pub strip-faced : (r : Stripped) (a : strip.Answer) → r ≡ stripping.answerOf a
     → _≡_ {A = StripFace} (record { number = r .number; place = r .place; kept = r .kept; removed = r .removed; fields = r .fields }) (stripFace a)
@@ -22,6 +26,10 @@ strip-faced r a e = rw e
 pub report-faced : (r : Reported) (a : report.Answer) → r ≡ reporting.answerOf a
     → _≡_ {A = ReportFace} (record { number = r .number; place = r .place; written = r .written; ignored = r .ignored }) (reportFace a)
 report-faced r a e = rw e
+
+pub write-faced : (r : Written) (a : compose.Answer) → r ≡ writing.answerOf a
+    → _≡_ {A = WriteFace} (record { number = r .number; place = r .place; written = r .written }) (writeFace a)
+write-faced r a e = rw e
 
 pub judge-faced : (r : Judged) (a : arc.Answer) → r ≡ judging.answerOf a → (t : ℕ) → t ≡ hasOldestPass (r .status)
     → _≡_ {A = JudgeFace}

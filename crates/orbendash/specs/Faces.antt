@@ -6,10 +6,12 @@ use lib.ListN.{length}
 use Rattle.strip.specs.Strip as strip
 use Rattle.body.specs.Report as report
 use Rattle.arc.specs.Chain as arc
+use Rattle.compose.specs.Compose as compose
 use Rattle.fields.specs.declared.Step.{Step}
 use Rattle.fields.specs.declared.Step.the-variants.{Field, Last}
 use Rattle.orbendash.specs.declared.StripFace.{StripFace}
 use Rattle.orbendash.specs.declared.ReportFace.{ReportFace}
+use Rattle.orbendash.specs.declared.WriteFace.{WriteFace}
 use Rattle.orbendash.specs.declared.JudgeFace.{JudgeFace}
 use Rattle.orbendash.specs.declared.NextFace.{NextFace}
 
@@ -18,6 +20,9 @@ stripFace a = record { number = a .number; place = a .place; kept = a .kept; rem
 
 abbrev pub reportFace : report.Answer → ReportFace
 reportFace a = record { number = a .number; place = a .place; written = length (a .written); ignored = a .ignored }
+
+abbrev pub writeFace : compose.Answer → WriteFace
+writeFace a = record { number = a .number; place = a .place; written = length (a .written) }
 
 -- there is an oldest-pass exactly where the status is pass
 abbrev pub hasOldestPass : ℕ → ℕ

@@ -10,7 +10,9 @@ ghost use Rattle.body.specs.Report.{report};
 ghost use Rattle.report.specs.Answers as reporting;
 ghost use Rattle.arc.specs.Chain.{judge};
 ghost use Rattle.fields.specs.Steps.{stepFrom};
-ghost use Rattle.orbendash.specs.Faces.{stripFace, reportFace, hasOldestPass, judgeFace, nextFace};
+ghost use Rattle.compose.specs.Compose.{compose};
+ghost use Rattle.writing.specs.Answers as writing;
+ghost use Rattle.orbendash.specs.Faces.{stripFace, reportFace, writeFace, hasOldestPass, judgeFace, nextFace};
 
 #[repr(C)]
 pub struct StripFace {
@@ -27,6 +29,13 @@ pub struct ReportFace {
     pub place: usize,
     pub written: usize,
     pub ignored: usize,
+}
+
+#[repr(C)]
+pub struct WriteFace {
+    pub number: u8,
+    pub place: usize,
+    pub written: usize,
 }
 
 // `has_oldest_pass` is 1 where there is one.
@@ -83,6 +92,20 @@ pub extern "C" fn orbendash_report(body: &[u8], out: &mut [u8]) -> ReportFace
         place: r.place,
         written: r.written,
         ignored: r.ignored,
+    }
+}
+
+// The body that report lines say (`writing::write`).
+#[no_mangle]
+pub extern "C" fn orbendash_write(lines: &[u8], out: &mut [u8]) -> WriteFace
+    ensures { λ r. ⌜ r ≡ writeFace (compose (now (lines .entry)) (length (now (out .entry)))) ⌝ }
+    ensures { λ _. ⌜ now (out .exit) ≡ writing.leaves (compose (now (lines .entry)) (length (now (out .entry)))) (now (out .entry)) ⌝ }
+{
+    let w = writing::write(lines, out);
+    WriteFace {
+        number: w.number,
+        place: w.place,
+        written: w.written,
     }
 }
 

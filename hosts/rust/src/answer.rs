@@ -1,4 +1,4 @@
-//! What the four calls answer, laid out as the C header has it (`hosts/c/orbendash.h`).
+//! What the five calls answer, laid out as the C header has it (`hosts/c/orbendash.h`).
 //!
 //! Each answer has a `number` and a `place`. On a refusal, that is on every number but 0 and 8,
 //! all else is 0 and nothing was written. Bytes of a lent buffer past those written stay as
@@ -8,7 +8,7 @@
 pub mod number {
     /// Done. Place 0.
     pub const DONE: u8 = 0;
-    /// The block or body is over 65,536 bytes. Place 0.
+    /// The block or body is over 65,536 bytes, or the body to be written would be. Place 0.
     pub const TOO_LONG: u8 = 1;
     /// A CR without LF, an LF without CR, or a last line without CRLF. Place: that byte; for an
     /// unfinished line the block's length.
@@ -32,6 +32,10 @@ pub mod number {
     pub const BAD_BODY: u8 = 9;
     /// The verdicts don't fit the chain. Place 0.
     pub const BAD_VERDICTS: u8 = 10;
+    /// No well-formed body without ignored results has these lines as its report. Place: the
+    /// first line, from 1, up to which they can begin no such report; where they only stop too
+    /// early, one more than their count.
+    pub const BAD_LINES: u8 = 11;
 }
 
 /// What became of the chain: the values of [`JudgeAnswer::outcome`].
@@ -97,6 +101,18 @@ pub struct ReportAnswer {
     pub written: usize,
     /// Well-formed results that the report leaves out; 0 with number 8.
     pub ignored: usize,
+}
+
+/// The answer of `write`: number 0, 1, 6 or 11.
+#[repr(C)]
+#[derive(Clone, Copy, Debug, Default, PartialEq, Eq)]
+pub struct WriteAnswer {
+    /// See [`number`].
+    pub number: u8,
+    /// See [`number`].
+    pub place: usize,
+    /// Bytes written.
+    pub written: usize,
 }
 
 /// The answer of `judge`: number 0 to 4 or 10.

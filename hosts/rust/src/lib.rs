@@ -1,8 +1,8 @@
 //! Orbendash for Rust programs: Authentication-Results and ARC header fields.
 //!
 //! The calls are those of the static library `liborbendash.a`, made safe: [`strip`], [`report`],
-//! [`judge`], [`next_field`], and [`fields`] to walk a whole block. Any bytes may be handed in.
-//! Each call answers with a struct that holds a [`number`], a place and its counts; see
+//! [`write`], [`judge`], [`next_field`], and [`fields`] to walk a whole block. Any bytes may be
+//! handed in. Each call answers with a struct that holds a [`number`], a place and its counts; see
 //! [`answer`] for every number and code.
 //!
 //! [`mod@reference`] implements the same rules a second time and has nothing to do with the
@@ -22,11 +22,12 @@ pub mod reference;
 
 pub use answer::{
     number, outcome, reason, status, FieldAnswer, JudgeAnswer, ReportAnswer, StripAnswer,
+    WriteAnswer,
 };
 
 /// The functions of the static library. A slice is a pointer and a length.
 mod library {
-    use crate::answer::{FieldAnswer, JudgeAnswer, ReportAnswer, StripAnswer};
+    use crate::answer::{FieldAnswer, JudgeAnswer, ReportAnswer, StripAnswer, WriteAnswer};
 
     extern "C" {
         pub fn orbendash_strip(
@@ -43,6 +44,12 @@ mod library {
             out: *mut u8,
             out_length: usize,
         ) -> ReportAnswer;
+        pub fn orbendash_write(
+            lines: *const u8,
+            lines_length: usize,
+            out: *mut u8,
+            out_length: usize,
+        ) -> WriteAnswer;
         pub fn orbendash_judge(
             block: *const u8,
             block_length: usize,
@@ -101,6 +108,39 @@ pub fn strip(block: &[u8], list: &[u8], out: &mut [u8]) -> StripAnswer {
 pub fn report(body: &[u8], out: &mut [u8]) -> ReportAnswer {
     // SAFETY: as in `strip`.
     unsafe { library::orbendash_report(body.as_ptr(), body.len(), out.as_mut_ptr(), out.len()) }
+}
+
+/// Writes the body of an Authentication-Results field of our own to `out`, from report lines.
+///
+/// `lines` are as [`report`] writes them, each ended by LF: `id`, then `none` alone, or one or more
+/// `m`, each followed by an `r` if the result has a reason and by a `p` for each property. Texts are
+/// coded as there, keywords are in lower case, and a `v` line is none of them. The lines may be of
+/// any length.
+///
+/// The body starts with a space, and has no other space or folding than one before each reason and
+/// property and one after each ";". Identifier, reason and local part are written bare where they can
+/// be, else as a quoted string. Its report is these very lines, and no result of it is ignored. A
+/// field is the name, a colon, the body and CRLF. A room of [`limit::BYTES`] is always enough.
+///
+/// The first of these that applies is the number: 11 no well-formed body without ignored results has
+/// that report, with the line as place; 1 the body would be over 65,536 bytes; 6 the room is too
+/// small, with the bytes needed as place; 0 done.
+///
+/// ```
+/// let lines = b"id\tmx.example.com\nm\tspf\tpass\nr\tknown%20host\np\tsmtp\tmailfrom\tt\ta.b\n";
+/// let mut out = vec![0; orbendash_host::limit::BYTES];
+/// let answer = orbendash_host::write(lines, &mut out);
+/// assert_eq!(answer.number, 0);
+/// assert_eq!(
+///     &out[..answer.written],
+///     b" mx.example.com; spf=pass reason=\"known host\" smtp.mailfrom=a.b"
+/// );
+/// let refused = orbendash_host::write(b"id\tmx.example.com\nm\tspf\tmaybe\n", &mut out);
+/// assert_eq!((refused.number, refused.place), (11, 2));
+/// ```
+pub fn write(lines: &[u8], out: &mut [u8]) -> WriteAnswer {
+    // SAFETY: as in `strip`.
+    unsafe { library::orbendash_write(lines.as_ptr(), lines.len(), out.as_mut_ptr(), out.len()) }
 }
 
 /// Judges the ARC chain of a header block.
@@ -185,7 +225,11 @@ impl<'a> Iterator for Fields<'a> {
         // A call reads the block from its front, so it is handed only what is left: where a
         // field ends, the rest is a block by itself. It has its own count of fields, though, so
         // after the most that a block may have, the whole block is asked.
-        let from = if self.given < limit::FIELDS { self.place } else { 0 };
+        let from = if self.given < limit::FIELDS {
+            self.place
+        } else {
+            0
+        };
         let rest = &self.block[from..];
         let answer = next_field(rest, self.place - from);
         if answer.found == 1 {

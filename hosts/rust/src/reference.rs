@@ -3,9 +3,13 @@
 //! Nothing here calls the linked library, and nothing of it was taken from there: the
 //! differential tests compare the two, and the benchmark measures one against the other.
 //! Names in quotes are the paper's sections. Identifiers are compared as ticket [2] of document
-//! 02 has it: with international labels.
+//! 02 has it: with international labels. What its ticket [1] adds, our own field from report
+//! lines, is a module of its own.
 
 mod punycode;
+mod write;
+
+pub use write::write;
 
 use std::borrow::Cow;
 use std::collections::HashSet;

@@ -4,9 +4,12 @@
 //! `ORBENDASH_SEED` sets the seed, `ORBENDASH_CASES` how many inputs are generated in all.
 
 mod common;
+#[path = "differential/write.rs"]
+mod write;
 
 use std::collections::BTreeMap;
 use std::fmt::{Debug, Write};
+use std::time::{Duration, Instant};
 
 use common::edges::{self, plain_chain};
 use common::labels::{self, Wanted};
@@ -17,7 +20,7 @@ use common::{
 use orbendash_host as library;
 use orbendash_host::reference;
 
-const DEFAULT_CASES: u64 = 400_000;
+const DEFAULT_CASES: u64 = 480_000;
 
 /// How often each answer came, from the edge cases and from the generated inputs.
 struct Tally {
@@ -39,9 +42,9 @@ impl Tally {
         }
     }
 
-    /// How many inputs this test generates: the five share the count.
+    /// How many inputs this test generates: the six share the count.
     fn cases(&self) -> usize {
-        (setting("ORBENDASH_CASES", DEFAULT_CASES) as usize).div_ceil(5)
+        (setting("ORBENDASH_CASES", DEFAULT_CASES) as usize).div_ceil(6)
     }
 
     fn rng(&self) -> Rng {
@@ -135,13 +138,17 @@ fn rooms(need: usize, enough: usize) -> Vec<usize> {
     }
 }
 
+/// How long an input is cut down: long ones take their time.
+const SHRINKING: Duration = Duration::from_secs(10);
+
 /// Cuts pieces out of an input for as long as it still fails.
 fn shrink(input: &[u8], fails: impl Fn(&[u8]) -> bool) -> Vec<u8> {
+    let start = Instant::now();
     let mut input = input.to_vec();
     let mut piece = input.len() / 2;
     while piece > 0 {
         let mut at = 0;
-        while at + piece <= input.len() {
+        while at + piece <= input.len() && start.elapsed() < SHRINKING {
             let shorter = [&input[..at], &input[at + piece..]].concat();
             if fails(&shorter) {
                 input = shorter;

@@ -1,4 +1,4 @@
-//! Measures the four calls: `cargo run --release --bin bench`.
+//! Measures the five calls: `cargo run --release --bin bench`.
 //!
 //! The linked library, the independent implementation and a copy of the same bytes take turns,
 //! and the best of many short rounds counts, so that whatever else the machine does matters
@@ -35,6 +35,9 @@ enum Call {
     Report {
         bodies: Vec<Vec<u8>>,
     },
+    Write {
+        reports: Vec<Vec<u8>>,
+    },
     Judge {
         block: Vec<u8>,
         verdicts: Vec<u8>,
@@ -56,6 +59,7 @@ impl Call {
         match self {
             Call::Strip { .. } => "strip",
             Call::Report { .. } => "report",
+            Call::Write { .. } => "write",
             Call::Judge { .. } => "judge",
             Call::NextField { .. } => "next_field",
             Call::Walk { .. } => "walk",
@@ -66,6 +70,7 @@ impl Call {
     fn input(&self) -> Vec<u8> {
         match self {
             Call::Report { bodies } => bodies.concat(),
+            Call::Write { reports } => reports.concat(),
             Call::Strip { block, .. }
             | Call::Judge { block, .. }
             | Call::NextField { block, .. }
@@ -80,6 +85,10 @@ impl Call {
             Call::Report { bodies } => bodies
                 .iter()
                 .map(|body| black_box(library::report(body, out)).number)
+                .fold(0, |_, number| number),
+            Call::Write { reports } => reports
+                .iter()
+                .map(|lines| black_box(library::write(lines, out)).number)
                 .fold(0, |_, number| number),
             Call::Judge { block, verdicts } => black_box(library::judge(block, verdicts)).number,
             Call::NextField { block, place } => {
@@ -96,6 +105,10 @@ impl Call {
             Call::Report { bodies } => bodies
                 .iter()
                 .map(|body| black_box(reference::report(body, out)).number)
+                .fold(0, |_, number| number),
+            Call::Write { reports } => reports
+                .iter()
+                .map(|lines| black_box(reference::write(lines, out)).number)
                 .fold(0, |_, number| number),
             Call::Judge { block, verdicts } => black_box(reference::judge(block, verdicts)).number,
             Call::NextField { block, place } => {
@@ -473,6 +486,23 @@ const BODIES: &[Filled] = &[
     ("keyword with hyphens at its end", b"a;spf=p", b"-", b""),
 ];
 
+/// Report lines for write.
+#[rustfmt::skip]
+const LINES: &[Filled] = &[
+    ("long identifier", b"id\t", b"x", b"\nnone\n"),
+    ("long identifier, all coded", b"id\t", b"%FF", b"\nnone\n"),
+    ("long identifier, quoted", b"id\t%20", b"x", b"\nnone\n"),
+    ("long identifier, then nothing", b"id\t", b"x", b"\n"),
+    ("results", b"id\ta\n", b"m\tspf\tpass\n", b""),
+    ("results, the last one without LF", b"id\ta\n", b"m\tspf\tpass\n", b"m\tspf\tpass"),
+    ("properties", b"id\ta\nm\tspf\tpass\n", b"p\tsmtp\ta\tt\tb\n", b""),
+    ("properties with mailboxes", b"id\ta\nm\tspf\tpass\n", b"p\tsmtp\ta\tm\tb.c@d.e\n", b""),
+    ("properties with quoted values", b"id\ta\nm\tspf\tpass\n", b"p\tsmtp\ta\tq\tb\\c\n", b""),
+    ("long local part", b"id\ta\nm\tspf\tpass\np\tsmtp\ta\tm\t", b"x.", b"x@a.b\n"),
+    ("long local part of @", b"id\ta\nm\tspf\tpass\np\tsmtp\ta\tm\t", b"@", b"a.b\n"),
+    ("long domain", b"id\ta\nm\tspf\tpass\np\tsmtp\ta\ta\t@a", b".b", b"\n"),
+];
+
 /// Blocks of one seal for judge.
 #[rustfmt::skip]
 const SEALS: &[Filled] = &[
@@ -589,6 +619,15 @@ fn report_rows(mail: &[u8]) {
     all_filled(BODIES, report);
 }
 
+fn write_rows() {
+    let reports = APPENDIX_B.map(|(_, report)| report.as_bytes().to_vec());
+    let reports = reports.to_vec();
+    realistic("Appendix B, all reports", Call::Write { reports });
+    all_filled(LINES, |lines| Call::Write {
+        reports: vec![lines],
+    });
+}
+
 fn judge_rows(mail: &[u8]) {
     let (block, verdicts) = (mail.to_vec(), vec![3, 3]);
     realistic("mail of 30 fields, 2 sets", Call::Judge { block, verdicts });
@@ -655,6 +694,7 @@ fn main() {
     assert_eq!(library::fields(&mail).count(), 30);
     strip_rows(&mail);
     report_rows(&mail);
+    write_rows();
     judge_rows(&mail);
     field_rows(&mail);
 }

@@ -1,5 +1,5 @@
-//! What the tests share: a small random generator, and generators of bodies, blocks and lists
-//! that follow the grammar of document 01.
+//! What the tests share: a small random generator, and generators of bodies, blocks, lists and
+//! report lines that follow the grammar of document 01.
 
 // Each test file is built by itself with its own copy of this module and uses a part of it.
 #![allow(dead_code)]
@@ -7,6 +7,7 @@
 pub mod appendix_b;
 pub mod edges;
 pub mod labels;
+pub mod lines;
 pub mod punycode;
 pub mod rfc_3492;
 
