@@ -149,7 +149,7 @@ fn add_reports(block: &[u8], own: &[u8], out: &mut [u8]) -> Reports
     }
 }
 
-// Reports a sound or unsound block by our own list as it is compared.
+// Reports a block by our own list as it is compared; `list` is the list itself, which a refusal looks at.
 fn report_by(block: &[u8], own: &[u8], list: &[u8]) {
     let mut out = [0u8; REPORTS];
     let r = add_reports(block, own, &mut out);
