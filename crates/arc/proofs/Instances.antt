@@ -20,14 +20,15 @@ use Rattle.reading.specs.Places.{from}
 use Rattle.reading.proofs.Sequencing.{after-zero, byte-is, byte-not}
 use Rattle.reading.proofs.Readers.{run-all, run-take, run-fits}
 use Rattle.reading.proofs.Places.{at-got, at-none, goes-on, stops, gives, passes, fails, text-at, text-none, skipping-at}
-use Rattle.lexis.specs.declared.Class.the-variants.{Digit}
-use Rattle.lexis.specs.Bytes.{inClass, alike}
-use Rattle.lexis.specs.Pieces.{space, digits, decimal}
-use Rattle.lexis.specs.Words.{skip}
-use Rattle.lexis.proofs.Numbers.{decimal-more}
-use Rattle.arc.specs.declared.kind.Kind.the-variants.{Results, Signature, Seal, Other}
-use Rattle.arc.specs.Sets.{kindNamed, isInstance, instance}
-use Rattle.arc.specs.Internal.{span, marked, worth, numbered}
+use Rattle.lexis_rules.specs.declared.Class.the-variants.{Digit}
+use Rattle.lexis_rules.specs.Bytes.{inClass, alike}
+use Rattle.lexis_rules.specs.Pieces.{space, digits, decimal}
+use Rattle.lexis_rules.specs.Words.{skip}
+use Rattle.lexis_rules.proofs.Numbers.{decimal-more}
+use Rattle.arc_rules.specs.declared.Kind.the-variants.{Results, Signature, Seal, Other}
+use Rattle.arc_rules.specs.Sets.{kindNamed, isInstance, instance}
+use Rattle.tags.specs.Tags.{span}
+use Rattle.arc.specs.Internal.{marked, worth, numbered}
 
 -- ==== kinds
 

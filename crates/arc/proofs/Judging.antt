@@ -8,37 +8,37 @@ use mathlib.Core.List.{List}
 use borrow.Author.Tests.{not-true, not-false, eq-eqb, ne-eqb, ltb-false}
 use lib.Dec.{ltb}
 use lib.ListN.{length, getD, take, replicate}
-use Rattle.lexis.specs.Limits.{byteLimit}
-use Rattle.block.specs.Fields.{fields}
-use Rattle.arc.specs.declared.Judged.{Judged}
+use Rattle.lexis_rules.specs.Limits.{byteLimit}
+use Rattle.block_rules.specs.Fields.{fields}
+use Rattle.arc_rules.specs.declared.Judged.{Judged}
 use Rattle.arc.specs.declared.Counts.{Counts}
 use Rattle.arc.specs.declared.Gathered.{Gathered}
-use Rattle.arc.specs.Sets.{lastInstance}
-use Rattle.arc.specs.Chain.{Outcome, none, failed, built, anyEmpty, prescribed, ranked, outcomeOf, validFor, passes, oldestPass, blank, judged, judge}
-use Rattle.arc.specs.Answers.{answerOf}
+use Rattle.arc_rules.specs.Sets.{lastInstance}
+use Rattle.arc_rules.specs.Chain.{Outcome, none, failed, built, anyEmpty, prescribed, completeOutcome, outcomeOf, validFor, passes, oldestPass, blank, judged, judge}
+use Rattle.arc_rules.specs.Answers.{answerOf}
 use Rattle.arc.specs.Internal.{setsOf, GatheredFrom, Places, rankedBy}
 use Rattle.arc.proofs.Noting.{Fitting, nothing-fits}
 
 -- ==== a chain that is built
 
 module _ (n : ℕ) (v : List ℕ) (ok : Bool) (h : ok ≡ validFor n v) where
-  pub weigh-bad : (r : Judged) → not ok ≡ true → r ≡ answerOf (blank 10 0) → r ≡ answerOf (judged (built n) v)
+  pub judge-built-bad : (r : Judged) → not ok ≡ true → r ≡ answerOf (blank 10 0) → r ≡ answerOf (judged (built n) v)
   unfolding judged
-  weigh-bad r z e = let t : validFor n v ≡ false = sym h ∙ not-true ok z in rw (judged, t) e
+  judge-built-bad r z e = let t : validFor n v ≡ false = sym h ∙ not-true ok z in rw (judged, t) e
 
   module _ (z : not ok ≡ false) (good : Bool) (g : good ≡ passes v) where
-    pub weigh-pass : good ≡ true → (o : ℕ) → o ≡ oldestPass v
+    pub judge-built-pass : good ≡ true → (o : ℕ) → o ≡ oldestPass v
         → record { number = 0; place = 0; outcome = 2; reason = 0; field = 0; instances = n; status = 1; oldest = o } ≡ answerOf (judged (built n) v)
     unfolding judged
-    weigh-pass y o e =
+    judge-built-pass y o e =
         let t : validFor n v ≡ true = sym h ∙ not-false ok z in
         let u : passes v ≡ true = sym g ∙ y in
         rw (judged, t, u, e)
 
-    pub weigh-fail : good ≡ false
+    pub judge-built-fail : good ≡ false
         → record { number = 0; place = 0; outcome = 2; reason = 0; field = 0; instances = n; status = 2; oldest = 0 } ≡ answerOf (judged (built n) v)
     unfolding judged
-    weigh-fail y =
+    judge-built-fail y =
         let t : validFor n v ≡ true = sym h ∙ not-false ok z in
         let u : passes v ≡ false = sym g ∙ y in
         rw (judged, t, u)
@@ -49,26 +49,26 @@ module _ (n : ℕ) (p : List (List ℕ)) (c v : List ℕ) (r : Judged) (gap : Bo
   ranks : (o : Outcome) → rankedBy n p c ≡ o → r ≡ answerOf (judged o v) → r ≡ answerOf (judged (rankedBy n p c) v)
   ranks o q e = rw q e
 
-  pub rank-gap : gap ≡ true → r ≡ answerOf (judged (failed 3 0) v) → r ≡ answerOf (judged (rankedBy n p c) v)
-  unfolding ranked
-  rank-gap z e = ranks (failed 3 0) (let t : anyEmpty (take n p) ≡ true = sym h ∙ z in rw (ranked, t)) e
+  pub judge-complete-gap : gap ≡ true → r ≡ answerOf (judged (failed 3 0) v) → r ≡ answerOf (judged (rankedBy n p c) v)
+  unfolding completeOutcome
+  judge-complete-gap z e = ranks (failed 3 0) (let t : anyEmpty (take n p) ≡ true = sym h ∙ z in rw (completeOutcome, t)) e
 
   module _ (z : gap ≡ false) where
     full : anyEmpty (take n p) ≡ false
     full = sym h ∙ z
 
-    pub rank-fail : getD c (n - 1) 0 ≡ 3 → r ≡ answerOf (judged (failed 4 0) v) → r ≡ answerOf (judged (rankedBy n p c) v)
-    unfolding ranked
-    rank-fail y e = ranks (failed 4 0) (rw (ranked, full, eq-eqb (getD c (n - 1) 0) 3 y)) e
+    pub judge-complete-fail : getD c (n - 1) 0 ≡ 3 → r ≡ answerOf (judged (failed 4 0) v) → r ≡ answerOf (judged (rankedBy n p c) v)
+    unfolding completeOutcome
+    judge-complete-fail y e = ranks (failed 4 0) (rw (completeOutcome, full, eq-eqb (getD c (n - 1) 0) 3 y)) e
 
     module _ (y : getD c (n - 1) 0 ≡ 3 → ⊥) (good : Bool) (g : good ≡ prescribed (take n c)) where
-      pub rank-built : good ≡ true → r ≡ answerOf (judged (built n) v) → r ≡ answerOf (judged (rankedBy n p c) v)
-      unfolding ranked
-      rank-built x e = ranks (built n) (let t : prescribed (take n c) ≡ true = sym g ∙ x in rw (ranked, full, ne-eqb (getD c (n - 1) 0) 3 y, t)) e
+      pub judge-complete-built : good ≡ true → r ≡ answerOf (judged (built n) v) → r ≡ answerOf (judged (rankedBy n p c) v)
+      unfolding completeOutcome
+      judge-complete-built x e = ranks (built n) (let t : prescribed (take n c) ≡ true = sym g ∙ x in rw (completeOutcome, full, ne-eqb (getD c (n - 1) 0) 3 y, t)) e
 
-      pub rank-not : good ≡ false → r ≡ answerOf (judged (failed 5 0) v) → r ≡ answerOf (judged (rankedBy n p c) v)
-      unfolding ranked
-      rank-not x e = ranks (failed 5 0) (let t : prescribed (take n c) ≡ false = sym g ∙ x in rw (ranked, full, ne-eqb (getD c (n - 1) 0) 3 y, t)) e
+      pub judge-complete-not : good ≡ false → r ≡ answerOf (judged (failed 5 0) v) → r ≡ answerOf (judged (rankedBy n p c) v)
+      unfolding completeOutcome
+      judge-complete-not x e = ranks (failed 5 0) (let t : prescribed (take n c) ≡ false = sym g ∙ x in rw (completeOutcome, full, ne-eqb (getD c (n - 1) 0) 3 y, t)) e
 
 -- ==== the whole: each answer by what was gathered
 
@@ -97,7 +97,7 @@ module _ (p : List (List ℕ)) (v : List ℕ) (c : Counts) where
       outcome-none e = rw (outcomeOf, a, b, e)
 
       outcome-ranked : (c .highest ≡ 0 → ⊥) → outcomeOf (setsOf p v c) ≡ rankedBy (c .highest) p v
-      unfolding outcomeOf ranked
+      unfolding outcomeOf completeOutcome
       outcome-ranked h = go (c .highest) refl
         where
           go : (n : ℕ) → c .highest ≡ n → outcomeOf (setsOf p v c) ≡ rankedBy (c .highest) p v
@@ -151,9 +151,9 @@ module _ (s verdicts : List ℕ) (r : Judged) (big : Bool) (b : big ≡ ltb byte
           answer-ranked ne e = judges _ (outcome-ranked p v (g .counts) a d ne) e
 
 -- what was gathered from nothing can be ranked
-pub rank-fits : (s : List ℕ) (p : List (List ℕ)) (v : List ℕ) (g : Gathered)
+pub judge-complete-fits : (s : List ℕ) (p : List (List ℕ)) (v : List ℕ) (g : Gathered)
     → GatheredFrom s (replicate lastInstance (replicate 3 0)) (replicate lastInstance 0) p v g
     → (g .counts .highest ≡ 0 → ⊥) → ((1 ≤ g .counts .highest) × (g .counts .highest ≤ lastInstance)) × (Places p × (length v ≡ lastInstance))
-rank-fits s p v g w ne =
+judge-complete-fits s p v g w ne =
     let f : Fitting (setsOf p v (g .counts)) = rw (w .sets) (nothing-fits (fields s .items)) in
     ((omega (arith, ne), f .highest), (f .table, f .values))

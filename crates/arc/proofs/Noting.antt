@@ -14,23 +14,23 @@ use lib.ListN.{length, getD, set, take, drop, replicate, length-drop, length-set
 use lib.Seq.{length-take-le, getD-set-same, getD-set-other}
 use Rattle.sequences.proofs.Booleans.{no-true, cond-le}
 use Rattle.reading.specs.Parsers.{Got, nothing, got}
-use Rattle.lexis.specs.Limits.{byteLimit}
+use Rattle.lexis_rules.specs.Limits.{byteLimit}
 use Rattle.block.specs.declared.Next.the-variants as next
 use Rattle.block.specs.declared.Next.the-variants.{End, Refused}
-use Rattle.block.specs.Fields as blocks
-use Rattle.block.specs.Fields.{nameOf, bodyOf}
+use Rattle.block_rules.specs.Fields as blocks
+use Rattle.block_rules.specs.Fields.{nameOf, bodyOf}
 use Rattle.block.specs.Steps.{nextFrom}
 use Rattle.block.proofs.Steps.{Rest, fieldFrom, Cut, step-field, step-end, step-refused, part-name, part-body}
 use Rattle.arc.specs.declared.Field.{Field}
 use Rattle.arc.specs.declared.Field.the-variants as field
 use Rattle.arc.specs.declared.Counts.{Counts}
 use Rattle.arc.specs.declared.instance.Instance.{Instance}
-use Rattle.arc.specs.declared.kind.Kind.{Kind}
-use Rattle.arc.specs.declared.kind.Kind.the-variants.{Results, Signature, Seal, Other}
-use Rattle.arc.specs.Sets.{kindNamed, lastInstance, instance, Said, says}
-use Rattle.arc.specs.Chain.{Sets, noSets, column, first, sealed, placed, heard, noted, gathered}
+use Rattle.arc_rules.specs.declared.Kind.{Kind}
+use Rattle.arc_rules.specs.declared.Kind.the-variants.{Results, Signature, Seal, Other}
+use Rattle.arc_rules.specs.Sets.{kindNamed, lastInstance, instance, Said, says}
+use Rattle.arc_rules.specs.Chain.{Sets, noSets, column, first, sealed, placed, recorded, noted, gathered}
 use Rattle.arc.specs.Answers.{noInstance}
-use Rattle.arc.proofs.Counting.{InRange, says-range}
+use Rattle.arc_rules.proofs.Counting.{InRange, says-range}
 use Rattle.arc.specs.Internal.{fieldSaid, saidOf, isOther, setsOf, noCounts, GatheredFrom, Places}
 
 -- ==== a field that reads
@@ -60,7 +60,7 @@ module _ (n : ℕ) (body : List ℕ) (z : Sets) where
   other-noted Other o = refl
 
   -- it is heard
-  note-heard : (k : Kind) → isOther k ≡ false → noted n k body z ≡ heard n k (says k body) z
+  note-heard : (k : Kind) → isOther k ≡ false → noted n k body z ≡ recorded n k (says k body) z
   note-heard Results o = refl
   note-heard Signature o = refl
   note-heard Seal o = refl
@@ -164,7 +164,7 @@ module _ (n : ℕ) (k : Kind) (z : Sets) (w : Fitting z) where
           })
       go false q = rw (placed, q) (record { table = w .table; values = w .values; highest = w .highest })
 
-  heard-fits : (body : List ℕ) (g : Got Said) → says k body ≡ g → Fitting (heard n k g z)
+  heard-fits : (body : List ℕ) (g : Got Said) → says k body ≡ g → Fitting (recorded n k g z)
   heard-fits body nothing e = record { table = w .table; values = w .values; highest = w .highest }
   heard-fits body (got x m) e = placed-fits x (says-range k body x m e)
 
@@ -200,28 +200,28 @@ pub record Gathering (s : List ℕ) (p₀ : List (List ℕ)) (v₀ : List ℕ) (
   pub inside : at ≤ length s
 
 -- before the first field
-pub gather-start : (s : List ℕ) (p : List (List ℕ)) (v : List ℕ) (r : Instance) → r ≡ noInstance
+pub read-sets-start : (s : List ℕ) (p : List (List ℕ)) (v : List ℕ) (r : Instance) → r ≡ noInstance
     → Gathering s p v p v 0 0 (record { unreadable = 0; repeated = 0; highest = r .number })
-gather-start s p v r e = record { number = refl; place = refl; sets = rw e; inside = omega arith }
+read-sets-start s p v r e = record { number = refl; place = refl; sets = rw e; inside = omega arith }
 
 module _ (s : List ℕ) (p₀ : List (List ℕ)) (v₀ : List ℕ) (p : List (List ℕ)) (v : List ℕ) (at count : ℕ) (c : Counts) (w : Gathering s p₀ v₀ p v at count c) where
   -- nothing is left
-  gather-ended : (n q : ℕ) → Rest s at count ≡ record { items = []; number = n; place = q } → GatheredFrom s p₀ v₀ p v (record { number = n; place = q; counts = c })
+  read-sets-ended : (n q : ℕ) → Rest s at count ≡ record { items = []; number = n; place = q } → GatheredFrom s p₀ v₀ p v (record { number = n; place = q; counts = c })
   unfolding gathered
-  gather-ended n q e = record { number = rw e at (w .number); place = rw e at (w .place); sets = rw e at (w .sets) }
+  read-sets-ended n q e = record { number = rw e at (w .number); place = rw e at (w .place); sets = rw e at (w .sets) }
 
-  pub gather-end : End ≡ nextFrom at count (drop at s) → GatheredFrom s p₀ v₀ p v (record { number = 0; place = 0; counts = c })
-  gather-end e = gather-ended 0 0 (step-end s at count e)
+  pub read-sets-end : End ≡ nextFrom at count (drop at s) → GatheredFrom s p₀ v₀ p v (record { number = 0; place = 0; counts = c })
+  read-sets-end e = read-sets-ended 0 0 (step-end s at count e)
 
-  pub gather-refused : (n q : ℕ) → Refused n q ≡ nextFrom at count (drop at s) → GatheredFrom s p₀ v₀ p v (record { number = n; place = q; counts = c })
-  gather-refused n q e = gather-ended n q (step-refused s at count n q e)
+  pub read-sets-refused : (n q : ℕ) → Refused n q ≡ nextFrom at count (drop at s) → GatheredFrom s p₀ v₀ p v (record { number = n; place = q; counts = c })
+  read-sets-refused n q e = read-sets-ended n q (step-refused s at count n q e)
 
   -- one field more
-  pub gather-more : (a n b e : ℕ) → next.Field a n b e ≡ nextFrom at count (drop at s) → (k : Kind) → k ≡ kindNamed (take (n - a) (drop a s))
+  pub read-sets-more : (a n b e : ℕ) → next.Field a n b e ≡ nextFrom at count (drop at s) → (k : Kind) → k ≡ kindNamed (take (n - a) (drop a s))
       → (p′ : List (List ℕ)) (v′ : List ℕ) (c′ : Counts) → setsOf p′ v′ c′ ≡ noted (count + 1) k (take (e - 2 - b) (drop b s)) (setsOf p v c)
       → Gathering s p₀ v₀ p′ v′ e (count + 1) c′
   unfolding gathered
-  gather-more a n b e q k y p′ v′ c′ z =
+  read-sets-more a n b e q k y p′ v′ c′ z =
       let u = step-field s at count a n b e q in
       let x : kindNamed (nameOf (fieldFrom s a n b e)) ≡ k = ap kindNamed (part-name s a n b e (u .named) (u .labelled) (u .bodied) (u .inside)) ∙ sym y in
       let l = part-body s a n b e (u .named) (u .labelled) (u .bodied) (u .inside) in

@@ -12,8 +12,8 @@ use lib.ListN.{length, getD, take, drop, drop-of-length-le}
 use lib.Seq.{drop-cons, length-take-le, getD-take, take-suc, take-length}
 use Rattle.sequences.proofs.Booleans.{and-none}
 use Rattle.sequences.proofs.Lists.{empty-is}
-use Rattle.arc.specs.Chain.{rowEmpty, anyEmpty, allPass, prescribed, sealGood, signatureGood, all, validFor, passes, oldestFrom, oldestPass}
-use Rattle.arc.specs.Sets.{lastInstance}
+use Rattle.arc_rules.specs.Chain.{rowEmpty, anyEmpty, allPass, prescribed, sealGood, signatureGood, all, validFor, passes, oldestFrom, oldestPass}
+use Rattle.arc_rules.specs.Sets.{lastInstance}
 use Rattle.arc.specs.Internal.{Places}
 
 -- ==== all of a list

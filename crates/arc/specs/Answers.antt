@@ -1,24 +1,9 @@
 -- What the code's answers say. Assumes nothing: these are definitions.
 use Prim.Native.Nat.{ℕ}
 use Rattle.reading.specs.Parsers.{Got, nothing, got}
-use Rattle.arc.specs.declared.Judged.{Judged}
 use Rattle.arc.specs.declared.instance.Instance.{Instance}
 use Rattle.arc.specs.declared.instance.Start.{Start}
 use Rattle.arc.specs.declared.instance.Start.the-variants.{Read, Missing}
-use Rattle.arc.specs.Chain.{Answer}
-
-abbrev pub answerOf : Answer → Judged
-answerOf a =
-    record {
-      number = a .number;
-      place = a .place;
-      outcome = a .outcome;
-      reason = a .reason;
-      field = a .field;
-      instances = a .instances;
-      status = a .status;
-      oldest = a .oldest;
-    }
 
 -- before any instance is known
 abbrev pub noInstance : Instance

@@ -1,5 +1,5 @@
 // The instance at the front of the body of an ARC field.
-use lexis::Class;
+use lexis_rules::Class;
 ghost use mathlib.Core.Path.{_≡_};
 ghost use mathlib.Core.Bool.{true};
 ghost use Prim.Native.Nat.{_+_, _-_};
@@ -7,8 +7,8 @@ ghost use lib.ListN.{drop, length};
 ghost use Rattle.reading.specs.Texts.{within};
 ghost use Rattle.reading.specs.Readers.{run};
 ghost use Rattle.reading.specs.Places.{from};
-ghost use Rattle.lexis.specs.Bytes.{inClass};
-ghost use Rattle.arc.specs.Sets.{firstInstance, lastInstance, instance};
+ghost use Rattle.lexis_rules.specs.Bytes.{inClass};
+ghost use Rattle.arc_rules.specs.Sets.{firstInstance, lastInstance, instance};
 ghost use Rattle.arc.specs.Answers.{noInstance, startGot};
 ghost use Rattle.arc.specs.Internal.{marked, worth, numbered};
 
@@ -18,9 +18,10 @@ pub struct Instance {
 }
 
 impl Instance {
-    // The lowest and the highest instance.
+    // The lowest instance.
     pub const FIRST: usize = 1;
 
+    // The highest instance.
     pub const LAST: usize = 50;
 
     // No instance yet.

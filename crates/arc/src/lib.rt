@@ -18,38 +18,32 @@
 //   5  the seal at 1 hasn't cv none, or a later one hasn't cv pass
 // The status is 0 (none), 1 (pass) or 2 (fail); `oldest` is the oldest-pass, which there is exactly where the status
 // is pass.
+use answer_numbers::ChainValue;
+use answer_numbers::Number;
+use answer_numbers::Outcome;
+use answer_numbers::Reason;
+use answer_numbers::Status;
+use answer_numbers::Verdict;
+use arc_rules::Judged;
+use arc_rules::Kind;
 use block::Next;
 use block::Walk;
 use instance::Instance;
 use instance::Start;
-use kind::Kind;
-use tags::Listed;
+use taglist::Listed;
 ghost use mathlib.Core.Path.{_≡_};
 ghost use mathlib.Core.Bool.{cond};
 ghost use Prim.Native.Nat.{_≤_, _<_};
 ghost use lib.Dec.{ltb};
 ghost use lib.ListN.{length, take};
-ghost use Rattle.lexis.specs.Limits.{byteLimit};
-ghost use Rattle.arc.specs.Chain.{column, first, sealed, placed, noted, failed, built, anyEmpty, prescribed, sealGood, all, validFor, passes, oldestPass, blank, judged, judge};
-ghost use Rattle.arc.specs.Sets.{lastInstance};
-ghost use Rattle.arc.specs.Answers.{answerOf};
+ghost use Rattle.lexis_rules.specs.Limits.{byteLimit};
+ghost use Rattle.arc_rules.specs.Chain.{column, first, sealed, placed, noted, failed, built, anyEmpty, prescribed, sealGood, all, validFor, passes, oldestPass, blank, judged, judge};
+ghost use Rattle.arc_rules.specs.Sets.{lastInstance};
+ghost use Rattle.arc_rules.specs.Answers.{answerOf};
 ghost use Rattle.arc.specs.Internal.{fieldOf, fieldSaid, saidOf, isOther, setsOf, GatheredFrom, Places, rankedBy};
 
 pub mod instance;
 pub mod kind;
-mod seen;
-mod tags;
-
-pub struct Judged {
-    pub number: u8,
-    pub place: usize,
-    pub outcome: u8,
-    pub reason: u8,
-    pub field: usize,
-    pub instances: usize,
-    pub status: u8,
-    pub oldest: usize,
-}
 
 // What an ARC field says: its instance, and a seal's chain value (0 for the other kinds).
 enum Field {
@@ -74,8 +68,8 @@ fn read_field(kind: Kind, body: &[u8]) -> Field
     match instance::instance_of(body) {
         Start::Read { instance, end } => match kind {
             Kind::Results => Field::Read { instance, cv: 0 },
-            Kind::Signature => field_of(instance, tags::list_at(false, body, end)),
-            Kind::Seal => field_of(instance, tags::list_at(true, body, end)),
+            Kind::Signature => field_of(instance, taglist::list_at(false, body, end)),
+            Kind::Seal => field_of(instance, taglist::list_at(true, body, end)),
             Kind::Other => Field::Unreadable,
         },
         Start::Missing => Field::Unreadable,
@@ -217,7 +211,7 @@ struct Gathered {
 }
 
 // Notes all fields of a block, up to the first refusal.
-fn gather(
+fn read_sets(
     s: &[u8],
     places: &mut [[u16; 3]; Instance::LAST],
     cvs: &mut [u8; Instance::LAST],
@@ -248,7 +242,7 @@ fn gather(
             }
             Next::End => {
                 return Gathered {
-                    number: 0,
+                    number: Number::DONE,
                     place: 0,
                     counts: c,
                 };
@@ -293,12 +287,12 @@ fn is_prescribed(cvs: &[u8; Instance::LAST], n: usize) -> bool
     if n == 0 {
         return true;
     }
-    if cvs[0] != 1 {
+    if cvs[0] != ChainValue::NONE {
         return false;
     }
     let mut i: usize = 1;
     while i < n {
-        if cvs[i] != 2 {
+        if cvs[i] != ChainValue::PASS {
             return false;
         }
         i += 1;
@@ -315,7 +309,7 @@ fn are_valid(n: usize, v: &[u8]) -> bool
     }
     let mut i: usize = 0;
     while i < v.len() {
-        if v[i] > 3 {
+        if v[i] > Verdict::MOST {
             return false;
         }
         i += 1;
@@ -329,7 +323,7 @@ fn seals_good(v: &[u8]) -> bool
 {
     let mut i: usize = 0;
     while i < v.len() {
-        if v[i] < 2 {
+        if v[i] < Verdict::SEAL {
             return false;
         }
         i += 1;
@@ -370,11 +364,11 @@ fn blank(number: u8, place: usize) -> Judged
     Judged {
         number,
         place,
-        outcome: 0,
-        reason: 0,
+        outcome: Outcome::NONE,
+        reason: Reason::NONE,
         field: 0,
         instances: 0,
-        status: 0,
+        status: Status::NONE,
         oldest: 0,
     }
 }
@@ -383,50 +377,50 @@ fn failed(reason: u8, field: usize, v: &[u8]) -> Judged
     ensures { λ r. ⌜ r ≡ answerOf (judged (failed reason field) (now (v .entry))) ⌝ }
 {
     Judged {
-        number: 0,
+        number: Number::DONE,
         place: 0,
-        outcome: 1,
+        outcome: Outcome::FAILED,
         reason,
         field,
         instances: 0,
-        status: 2,
+        status: Status::FAIL,
         oldest: 0,
     }
 }
 
 // The answer where a chain of n instances is built.
-fn weigh(n: usize, v: &[u8]) -> Judged
+fn judge_built(n: usize, v: &[u8]) -> Judged
     ensures { λ r. ⌜ r ≡ answerOf (judged (built n) (now (v .entry))) ⌝ }
 {
     if !are_valid(n, v) {
-        return blank(10, 0);
+        return blank(Number::BAD_VERDICTS, 0);
     }
     if is_pass(v) {
         return Judged {
-            number: 0,
+            number: Number::DONE,
             place: 0,
-            outcome: 2,
-            reason: 0,
+            outcome: Outcome::BUILT,
+            reason: Reason::NONE,
             field: 0,
             instances: n,
-            status: 1,
+            status: Status::PASS,
             oldest: oldest_pass(v),
         };
     }
     Judged {
-        number: 0,
+        number: Number::DONE,
         place: 0,
-        outcome: 2,
-        reason: 0,
+        outcome: Outcome::BUILT,
+        reason: Reason::NONE,
         field: 0,
         instances: n,
-        status: 2,
+        status: Status::FAIL,
         oldest: 0,
     }
 }
 
 // The answer where every ARC field reads, none is repeated, and n is the highest instance.
-fn rank(
+fn judge_complete(
     places: &[[u16; 3]; Instance::LAST],
     cvs: &[u8; Instance::LAST],
     n: usize,
@@ -436,37 +430,38 @@ fn rank(
     ensures { λ r. ⌜ r ≡ answerOf (judged (rankedBy n (now (places .entry)) (now (cvs .entry))) (now (v .entry))) ⌝ }
 {
     if has_empty(places, n) {
-        return failed(3, 0, v);
+        return failed(Reason::EMPTY_PLACE, 0, v);
     }
-    if cvs[n - 1] == 3 {
-        return failed(4, 0, v);
+    if cvs[n - 1] == ChainValue::FAIL {
+        return failed(Reason::LAST_FAIL, 0, v);
     }
     if is_prescribed(cvs, n) {
-        return weigh(n, v);
+        return judge_built(n, v);
     }
-    failed(5, 0, v)
+    failed(Reason::NOT_PRESCRIBED, 0, v)
 }
 
+// Judges the chain of a block by the verdicts on its signatures.
 pub fn judge(s: &[u8], verdicts: &[u8]) -> Judged
     ensures { λ r. ⌜ r ≡ answerOf (judge (now (s .entry)) (now (verdicts .entry))) ⌝ }
 {
     if lexis::too_long(s) {
-        return blank(1, 0);
+        return blank(Number::TOO_LONG, 0);
     }
     let mut places = [[0u16; 3]; Instance::LAST];
     let mut cvs = [0u8; Instance::LAST];
-    let g = gather(s, &mut places, &mut cvs);
-    if g.number != 0 {
+    let g = read_sets(s, &mut places, &mut cvs);
+    if g.number != Number::DONE {
         return blank(g.number, g.place);
     }
     if g.counts.unreadable != 0 {
-        return failed(1, g.counts.unreadable, verdicts);
+        return failed(Reason::UNREADABLE, g.counts.unreadable, verdicts);
     }
     if g.counts.repeated != 0 {
-        return failed(2, g.counts.repeated, verdicts);
+        return failed(Reason::REPEATED, g.counts.repeated, verdicts);
     }
     if g.counts.highest == 0 {
-        return blank(0, 0);
+        return blank(Number::DONE, 0);
     }
-    rank(&places, &cvs, g.counts.highest, verdicts)
+    judge_complete(&places, &cvs, g.counts.highest, verdicts)
 }

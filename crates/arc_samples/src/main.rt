@@ -3,44 +3,11 @@
 // Two arguments make a case: the file of the block, and the verdicts, one decimal digit for each instance from 1, or "-" for none. A line has
 // the two arguments and then number, place, outcome, reason, field, instances, status and oldest, as `judge` returned them. A file that can't be
 // opened has `no file` on its line. At most 65,540 bytes of a block are read, which is enough on the far side of its limit.
-use arc::Judged;
+use arc_rules::Judged;
 use libc::STDOUT_FILENO;
-ghost use Rattle.io.specs.Counts.{Counts};
 
 // The most bytes of a block that are read.
 const MOST: usize = 65540;
-
-// A byte as a wider number.
-fn wide(b: u8) -> u64 {
-    b as u64
-}
-
-// What a digit tells; for any other byte a number past 9.
-fn digit(b: u8) -> u8 {
-    if b < b'0' {
-        return 255;
-    }
-    b - b'0'
-}
-
-// Puts what the digits in front of the text tell at the start of the verdicts, and answers how many there are.
-fn tell(text: &[u8], verdicts: &mut [u8]) -> usize
-    ensures { λ r. ⌜ Counts r (now (verdicts .exit)) ⌝ }
-{
-    let mut i: usize = 0;
-    while i < text.len() {
-        if i >= verdicts.len() {
-            return i;
-        }
-        let told = digit(text[i]);
-        if told > 9 {
-            return i;
-        }
-        verdicts[i] = told;
-        i += 1;
-    }
-    i
-}
 
 // Writes a number behind its name.
 fn put_number(label: &[u8], n: u64) {
@@ -50,17 +17,17 @@ fn put_number(label: &[u8], n: u64) {
 
 // Writes the front half of the answer.
 fn put_outcome(r: Judged) {
-    put_number(b": number ", wide(r.number));
+    put_number(b": number ", r.number as u64);
     put_number(b" place ", r.place as u64);
-    put_number(b" outcome ", wide(r.outcome));
-    put_number(b" reason ", wide(r.reason));
+    put_number(b" outcome ", r.outcome as u64);
+    put_number(b" reason ", r.reason as u64);
     put_number(b" field ", r.field as u64);
 }
 
 // Writes the other half.
 fn put_status(r: Judged) {
     put_number(b" instances ", r.instances as u64);
-    put_number(b" status ", wide(r.status));
+    put_number(b" status ", r.status as u64);
     put_number(b" oldest ", r.oldest as u64);
 }
 
@@ -76,7 +43,7 @@ fn run(file: i32, text: &[u8]) {
     let mut block = [0u8; MOST];
     let n = io::read_full(file, &mut block);
     let mut verdicts = io::buffer();
-    let m = tell(text, &mut verdicts);
+    let m = sampling::digits(text, &mut verdicts);
     put_judged(&block[..n], &verdicts[..m]);
 }
 
@@ -104,6 +71,7 @@ fn one_case(block: usize, verdicts: usize) {
     libc::close(file);
 }
 
+// Runs one case after the other.
 fn main() {
     let n = os::arg_count();
     let mut i: usize = 1;

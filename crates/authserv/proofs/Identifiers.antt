@@ -14,15 +14,15 @@ use Rattle.reading.specs.Parsers.{Got, nothing, got, _>>=_, _>>_, give, ahead, 
 use Rattle.reading.specs.Places.{from}
 use Rattle.reading.proofs.Readers.{choose-yes, choose-no, run-fits}
 use Rattle.reading.proofs.Places.{took, none-at, goes-on, stops, gives, skipping-at, text-at, text-none, ahead-at, ahead-none}
-use Rattle.lexis.specs.declared.Class.the-variants.{Delimiter}
-use Rattle.lexis.specs.Bytes.{inClass}
-use Rattle.lexis.specs.Pieces.{space, quoted}
-use Rattle.lexis.specs.Words.{valueText, skip}
-use Rattle.lexis.proofs.Pieces.{space-fits, quoted-fits}
-use Rattle.lexis.proofs.Values.{quoted-text, quote-text, token-text}
+use Rattle.lexis_rules.specs.declared.Class.the-variants.{Delimiter}
+use Rattle.lexis_rules.specs.Bytes.{inClass}
+use Rattle.lexis_rules.specs.Pieces.{space, quoted}
+use Rattle.lexis_rules.specs.Words.{valueText, skip}
+use Rattle.lexis_rules.proofs.Pieces.{space-fits, quoted-fits}
+use Rattle.lexis_rules.proofs.Values.{quoted-text, quote-text, token-text}
 use Rattle.authserv.specs.declared.Identifier.{Identifier}
 use Rattle.authserv.specs.declared.Identifier.the-variants.{Readable, Unreadable}
-use Rattle.authserv.specs.Identifier.{identifierToken, identifierValue, identifier}
+use Rattle.authserv_rules.specs.Identifier.{identifierToken, identifierValue, identifier}
 use Rattle.authserv.specs.Answers.{readable, identifierFrom, identifierAt, textOf, identifierGot}
 
 -- ==== by the tests of the code

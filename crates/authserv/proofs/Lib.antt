@@ -1,10 +1,4 @@
 pub mod Tokens
 pub mod Identifiers
 pub mod Versions
-pub mod Feeds
-pub mod OwnLists
-pub mod Spelt
-pub mod Whose
-pub mod Examples
-pub mod Parts
 pub mod Headlines

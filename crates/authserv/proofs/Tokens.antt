@@ -13,11 +13,11 @@ use Rattle.reading.specs.Places.{Reaches}
 use Rattle.reading.proofs.Texts.{starts-first, starts-not, follows-not}
 use Rattle.reading.proofs.Readers.{run-none, run-ends, run-from, run-narrow}
 use Rattle.reading.proofs.Loops.{reaches-start, reaches-on}
-use Rattle.lexis.specs.declared.Class.the-variants.{Token}
-use Rattle.lexis.specs.Bytes.{inClass}
-use Rattle.lexis.specs.Pieces.{token}
-use Rattle.lexis.proofs.Bytes.{class-zero}
-use Rattle.authserv.specs.Identifier.{identifierByte, identifierToken}
+use Rattle.lexis_rules.specs.declared.Class.the-variants.{Token}
+use Rattle.lexis_rules.specs.Bytes.{inClass}
+use Rattle.lexis_rules.specs.Pieces.{token}
+use Rattle.lexis_rules.proofs.Bytes.{class-zero}
+use Rattle.authserv_rules.specs.Identifier.{identifierByte, identifierToken}
 
 pub byte-high : (b : ℕ) → 128 ≤ b → true ≡ identifierByte b
 unfolding identifierByte

@@ -9,13 +9,13 @@ use lib.Seq.{drop-drop}
 use Rattle.reading.specs.Parsers.{nothing, got, _>>=_, _>>_, text, optional}
 use Rattle.reading.specs.Places.{from}
 use Rattle.reading.proofs.Places.{goes-on, stops, gives, text-at, text-none, pass-at, pass-none, one-more, none-there}
-use Rattle.lexis.specs.declared.Digits.{Digits}
-use Rattle.lexis.specs.Pieces.{space, digits, leading, isOne}
-use Rattle.lexis.specs.Words.{counted, gap, readDigits}
-use Rattle.lexis.specs.Answers.{digitsAt}
-use Rattle.lexis.proofs.Numbers.{counted-text}
+use Rattle.lexis_rules.specs.declared.Digits.{Digits}
+use Rattle.lexis_rules.specs.Pieces.{space, digits, leading, isOne}
+use Rattle.lexis_rules.specs.Words.{counted, gap, readDigits}
+use Rattle.lexis_rules.specs.Answers.{digitsAt}
+use Rattle.lexis_rules.proofs.Numbers.{counted-text}
 use Rattle.authserv.specs.declared.Version.the-variants.{Absent, Stated}
-use Rattle.authserv.specs.Version.{stated}
+use Rattle.authserv_rules.specs.Version.{stated}
 use Rattle.authserv.specs.Answers.{versionFrom, versionAt, versionGot}
 
 -- ==== by the tests of the code

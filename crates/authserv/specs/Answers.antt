@@ -8,15 +8,15 @@ use lib.Dec.{eqb}
 use lib.ListN.{getD, take, drop}
 use Rattle.reading.specs.Texts.{follows}
 use Rattle.reading.specs.Parsers.{Got, nothing, got}
-use Rattle.lexis.specs.declared.Class.the-variants.{Delimiter}
-use Rattle.lexis.specs.Bytes.{inClass}
-use Rattle.lexis.specs.Pieces.{space, quoted, digits, leading, isOne}
-use Rattle.lexis.specs.Words.{quotedText}
+use Rattle.lexis_rules.specs.declared.Class.the-variants.{Delimiter}
+use Rattle.lexis_rules.specs.Bytes.{inClass}
+use Rattle.lexis_rules.specs.Pieces.{space, quoted, digits, leading, isOne}
+use Rattle.lexis_rules.specs.Words.{quotedText}
 use Rattle.authserv.specs.declared.Identifier.{Identifier}
 use Rattle.authserv.specs.declared.Identifier.the-variants.{Readable, Unreadable}
 use Rattle.authserv.specs.declared.Version.{Version}
 use Rattle.authserv.specs.declared.Version.the-variants.{Absent, Stated}
-use Rattle.authserv.specs.Identifier.{identifierToken}
+use Rattle.authserv_rules.specs.Identifier.{identifierToken}
 
 -- ==== where the identifier stands
 

@@ -1,5 +1,1 @@
-pub mod Identifier
-pub mod Version
 pub mod Answers
-pub mod Listed
-pub mod Spelled

@@ -3,17 +3,14 @@
 //
 // Where the identifier can't be read nothing further is tried: that is number 7 where a report is asked for, and the field goes where a
 // block is stripped.
-use lexis::Class;
+use lexis_rules::Class;
 ghost use mathlib.Core.Path.{_≡_};
 ghost use Prim.Native.Nat.{_+_};
 ghost use lib.ListN.{drop};
 ghost use Rattle.reading.specs.Texts.{follows};
-ghost use Rattle.lexis.specs.Bytes.{inClass};
-ghost use Rattle.authserv.specs.Identifier.{identifierByte, identifierToken};
+ghost use Rattle.lexis_rules.specs.Bytes.{inClass};
+ghost use Rattle.authserv_rules.specs.Identifier.{identifierByte, identifierToken};
 ghost use Rattle.authserv.specs.Answers.{readable, identifierAt, versionAt};
-
-mod lines;
-pub mod own;
 
 // Where an identifier stands: from `start` up to `end`, with its quotes where it is quoted.
 pub enum Identifier {

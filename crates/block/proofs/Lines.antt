@@ -1,62 +1,32 @@
 -- Lines, labels and fields at places of a slice, with premises as a need is handed them: what a call ensures of its answer, and what a
 -- test says of that. Each law opens one definition. Assumes nothing.
 use Prim.Native.Char.{code}
-use Prim.Native.Nat.{ℕ, zero, suc, _+_, _-_, _≤_, _<_, _^_, zero-le}
-use native.Mathlib.Nat.{add-zero}
+use Prim.Native.Nat.{ℕ, suc, _+_, _-_, _≤_, _<_, _^_}
 use native.Mathlib.Omega.{arith}
-use mathlib.Core.Path.{_≡_, refl, sym, ap, _∙_}
-use mathlib.Core.Bool.{Bool, true, false, cond, _&&_, _||_}
+use mathlib.Core.Path.{_≡_, refl, sym, _∙_}
+use mathlib.Core.Bool.{Bool, true, false, cond}
 use mathlib.Core.List.{List, [], _∷_}
 use borrow.Author.Tests.{le-leb, lt-leb}
-use lib.Dec.{eqb, leb}
-use lib.ListN.{length, getD, drop, take, length-drop, drop-of-length-le}
-use lib.Seq.{drop-drop, getD-drop}
+use lib.Dec.{eqb}
+use lib.ListN.{length, getD, drop, length-drop, drop-of-length-le}
+use lib.Seq.{drop-drop}
 use mir.Syntax.{w64}
 use mir.Val as machine
-use Rattle.sequences.proofs.Booleans.{no-true, and-right, cond-le}
 use Rattle.reading.specs.Readers.{run, many}
 use Rattle.reading.specs.Places.{Reaches}
 use Rattle.reading.specs.Locality.{Fits}
-use Rattle.reading.specs.Walks.{item, refused}
-use Rattle.reading.proofs.Readers.{there, there-at}
-use Rattle.reading.proofs.Loops.{reaches-onto, piece-more, many-on, many-off, turn-less}
-use Rattle.lexis.specs.declared.Class.the-variants.{Blank}
-use Rattle.lexis.specs.Bytes.{inClass}
+use Rattle.reading.proofs.Readers.{there-at}
+use Rattle.reading.proofs.Loops.{many-on, many-off, turn-less}
+use Rattle.lexis_rules.specs.declared.Class.the-variants.{Blank}
+use Rattle.lexis_rules.specs.Bytes.{inClass}
 use Rattle.block.specs.declared.Next.{Next}
 use Rattle.block.specs.declared.Next.the-variants.{Field, End, Refused}
-use Rattle.block.specs.Fields.{lineText, line, name, label, folded, extent, fieldLimit, closed, fieldAt}
+use Rattle.block_rules.specs.Fields.{lineText, line, name, nameColon, folded, extent, fieldLimit, fieldOf, fieldAt}
 use Rattle.block.specs.Steps.{nextOf, nextFrom, finishedAt, finished}
-
--- a byte past the end e of what a reader takes
-behind : (s : List ℕ) (at n k e : ℕ) → e ≡ at + n → getD (drop e s) k 0 ≡ getD (drop at s) (n + k) 0
-behind s at n k e q = simp getD-drop (ap (λ (j : ℕ). getD s j 0) (omega arith))
-
-pub behind-first : (s : List ℕ) (at n e : ℕ) → e ≡ at + n → getD (drop e s) 0 0 ≡ getD (drop at s) n 0
-behind-first s at n e q = behind s at n 0 e q ∙ rw add-zero
+use Rattle.reading.proofs.Places.{behind, behind-first}
+use Rattle.block_rules.proofs.Lines.{folded-fits, label-zero, label-suc, field-2, field-3, field-4, field-is, closed-2, closed-is}
 
 -- ==== lines
-
-pub line-fits : Fits line
-unfolding line
-line-fits xs =
-    let a = eqb (getD xs (lineText xs) 0) (code "\r") in
-    let b = eqb (getD xs (lineText xs + 1) 0) (code "\n") in
-    cond-le (a && b) (lineText xs + 2) 0 (length xs) (λ e. omega (arith, there (λ x. eqb x (code "\n")) refl xs (lineText xs + 1) (and-right a b e))) zero-le
-
-pub folded-fits : Fits folded
-unfolding folded
-folded-fits xs = cond-le (inClass Blank (getD xs 0 0)) (line xs) 0 (length xs) (λ e. line-fits xs) zero-le
-
--- bytes of which none ends a run are passed at once
-pub text-on : (c : ℕ → Bool) (s : List ℕ) (at i n : ℕ) (r : Bool) → Reaches (run c) s at i → (r ≡ false → Reaches (run c) s i (i + n)) → r ≡ false
-    → Reaches (run c) s at (i + n)
-text-on c s at i n r w f e = reaches-onto w (f e)
-
--- one byte after the other, as long as none has hit
-pub hits-on : (c : ℕ → Bool) (s : List ℕ) (at j : ℕ) (hit r : Bool) → (hit ≡ false → Reaches (run c) s at (at + j)) → at + j < length s
-    → (r ≡ false → c (getD s (at + j) 0) ≡ true) → (hit || r) ≡ false → Reaches (run c) s at (at + (j + 1))
-hits-on c s at j true r w h f e = absurd (no-true (sym e))
-hits-on c s at j false r w h f e = piece-more c s at j true (w refl) h (sym (f e)) refl
 
 -- CR and LF after the text of a line
 module _ (s : List ℕ) (at e : ℕ) (q : e ≡ at + lineText (drop at s)) (r : Bool) (h : r ≡ eqb (getD (drop e s) 0 0) (code "\r")) where
@@ -104,23 +74,13 @@ module _ (s : List ℕ) (at i : ℕ) (w : Reaches (many folded 0) s at i) (e : �
 
 -- ==== labels
 
-pub label-zero : (xs : List ℕ) → name xs ≡ 0 → label xs ≡ 0
-unfolding label
-label-zero xs e = rw (label, e)
-
-pub label-suc : (xs : List ℕ) (n : ℕ) → name xs ≡ n → (n ≡ 0 → ⊥)
-    → label xs ≡ cond (eqb (getD xs (n + run (inClass Blank) (drop n xs)) 0) (code ":")) (n + run (inClass Blank) (drop n xs) + 1) 0
-unfolding label
-label-suc xs zero e ne = absurd (ne refl)
-label-suc xs (suc n) e ne = rw (label, e)
-
 -- a name up to n, blanks up to e, and a colon
 module _ (s : List ℕ) (at n : ℕ) (q : n ≡ at + name (drop at s)) where
-  pub label-none : n ≡ at → at ≡ at + label (drop at s)
+  pub label-none : n ≡ at → at ≡ at + nameColon (drop at s)
   label-none z = rw (label-zero (drop at s) (omega arith)) (omega arith)
 
   module _ (ne : n ≡ at → ⊥) (e : ℕ) (p : e ≡ n + run (inClass Blank) (drop n s)) (r : Bool) (h : r ≡ eqb (getD (drop e s) 0 0) (code ":")) where
-    label-cond : label (drop at s) ≡ cond r (e - at + 1) 0
+    label-cond : nameColon (drop at s) ≡ cond r (e - at + 1) 0
     label-cond =
         let m = name (drop at s) in
         let d : drop m (drop at s) ≡ drop n s = rw (drop-drop, ← q) in
@@ -128,41 +88,11 @@ module _ (s : List ℕ) (at n : ℕ) (q : n ≡ at + name (drop at s)) where
         let g : getD (drop e s) 0 0 ≡ getD (drop at s) (e - at) 0 = behind-first s at (e - at) e (omega arith) in
         rw (label-suc (drop at s) m refl (omega arith), k, ← g, ← h)
 
-    pub label-no : r ≡ false → at ≡ at + label (drop at s)
+    pub label-no : r ≡ false → at ≡ at + nameColon (drop at s)
     label-no z = rw (label-cond, z) (omega arith)
 
-    pub label-yes : r ≡ true → e + 1 ≡ at + label (drop at s)
+    pub label-yes : r ≡ true → e + 1 ≡ at + nameColon (drop at s)
     label-yes z = rw (label-cond, z) (omega arith)
-
--- ==== what stands at the front, case by case
-
-module _ (at count : ℕ) (xs : List ℕ) where
-  pub field-2 : line xs ≡ 0 → fieldAt at count xs ≡ refused 2 (at + lineText xs)
-  unfolding fieldAt
-  field-2 e = rw (fieldAt, e)
-
-  module _ (m : ℕ) (e : line xs ≡ suc m) where
-    pub field-3 : label xs ≡ 0 → fieldAt at count xs ≡ refused 3 at
-    unfolding fieldAt
-    field-3 f = rw (fieldAt, e, f)
-
-    module _ (b : ℕ) (f : label xs ≡ suc b) where
-      pub field-4 : leb fieldLimit count ≡ true → fieldAt at count xs ≡ refused 4 at
-      unfolding fieldAt
-      field-4 g = rw (fieldAt, e, f, g)
-
-      pub field-is : leb fieldLimit count ≡ false → fieldAt at count xs ≡ closed at xs (extent xs)
-      unfolding fieldAt
-      field-is g = rw (fieldAt, e, f, g)
-
-module _ (at : ℕ) (xs : List ℕ) (n : ℕ) where
-  pub closed-2 : inClass Blank (getD xs n 0) ≡ true → closed at xs n ≡ refused 2 (at + n + lineText (drop n xs))
-  unfolding closed
-  closed-2 e = rw (closed, e)
-
-  pub closed-is : inClass Blank (getD xs n 0) ≡ false → closed at xs n ≡ item (record { bytes = take n xs; name = name xs; body = label xs }) n
-  unfolding closed
-  closed-is e = rw (closed, e)
 
 -- ==== the last part of a step: the further lines end at e
 
@@ -185,18 +115,18 @@ module _ (s : List ℕ) (at l n b e : ℕ) (q : e ≡ l + many folded 0 (drop l 
   finish-field z = rw (← q, finished-is at n b s e (sym h ∙ z))
 
 -- it says what stands at the front
-module _ (s : List ℕ) (at l n b : ℕ) (q : l ≡ at + line (drop at s)) (g : n ≡ at + name (drop at s)) (f : b ≡ at + label (drop at s)) where
+module _ (s : List ℕ) (at l n b : ℕ) (q : l ≡ at + line (drop at s)) (g : n ≡ at + name (drop at s)) (f : b ≡ at + nameColon (drop at s)) where
   ends : l + many folded 0 (drop l s) ≡ at + extent (drop at s)
   unfolding extent
   ends =
       let d : drop (line (drop at s)) (drop at s) ≡ drop l s = rw (drop-drop, ← q) in
       rw d (omega arith)
 
-  closes : (x : ℕ) (t : Bool) → inClass Blank (getD (drop at s) x 0) ≡ t → finishedAt at n b s (at + x) ≡ nextOf at (closed at (drop at s) x)
+  closes : (x : ℕ) (t : Bool) → inClass Blank (getD (drop at s) x 0) ≡ t → finishedAt at n b s (at + x) ≡ nextOf at (fieldOf at (drop at s) x)
   closes x true y = rw (closed-2 at (drop at s) x y, finished-2 at n b s (at + x) (rw (behind-first s at x (at + x) refl) y), drop-drop)
   closes x false y = rw (closed-is at (drop at s) x y, finished-is at n b s (at + x) (rw (behind-first s at x (at + x) refl) y), g, f)
 
-  finished-closed : finished at l n b s ≡ nextOf at (closed at (drop at s) (extent (drop at s)))
+  finished-closed : finished at l n b s ≡ nextOf at (fieldOf at (drop at s) (extent (drop at s)))
   unfolding finished
   finished-closed = rw ends (closes (extent (drop at s)) (inClass Blank (getD (drop at s) (extent (drop at s)) 0)) refl)
 
@@ -220,7 +150,7 @@ module _ (s : List ℕ) (at count : ℕ) where
       pub next-2 : l ≡ at → (p : ℕ) → p ≡ at + lineText (drop at s) → Refused 2 p ≡ nextFrom at count (drop at s)
       next-2 z p e = rw (next-there, field-2 at count (drop at s) (omega arith), e)
 
-      module _ (nz : l ≡ at → ⊥) (b : ℕ) (f : b ≡ at + label (drop at s)) where
+      module _ (nz : l ≡ at → ⊥) (b : ℕ) (f : b ≡ at + nameColon (drop at s)) where
         some-line : line (drop at s) ≡ suc (line (drop at s) - 1)
         some-line = omega arith
 
@@ -228,7 +158,7 @@ module _ (s : List ℕ) (at count : ℕ) where
         next-3 z = rw (next-there, field-3 at count (drop at s) _ some-line (omega arith))
 
         module _ (bz : b ≡ at → ⊥) where
-          some-label : label (drop at s) ≡ suc (label (drop at s) - 1)
+          some-label : nameColon (drop at s) ≡ suc (nameColon (drop at s) - 1)
           some-label = omega arith
 
           pub next-4 : fieldLimit ≤ count → Refused 4 at ≡ nextFrom at count (drop at s)

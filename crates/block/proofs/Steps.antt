@@ -12,10 +12,10 @@ use Rattle.reading.specs.Walks.{Met, item, refused, Walked, ended, before, walk
 use Rattle.reading.proofs.Walks.{walk-item, walk-stop, walk-end}
 use Rattle.block.specs.declared.Next.{Next}
 use Rattle.block.specs.declared.Next.the-variants as next
-use Rattle.block.specs.Fields.{Field, nameOf, bodyOf, fieldLimit, fieldAt}
+use Rattle.block_rules.specs.Fields.{Field, nameOf, bodyOf, fieldLimit, fieldAt}
 use Rattle.block.specs.Steps.{nextOf, nextFrom}
 use Rattle.block.proofs.Lines.{next-is}
-use Rattle.block.proofs.Field.{field-size, field-bytes, field-long, field-below, field-sound}
+use Rattle.block_rules.proofs.Field.{field-size, field-bytes, field-long, field-below, field-sound}
 
 -- what is left of a block at a place, after so many fields
 abbrev pub Rest : List ℕ → ℕ → ℕ → Walked Field

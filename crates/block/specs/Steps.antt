@@ -1,22 +1,16 @@
 -- What the code's answers say: one step of each walk, at places of the slice. Assumes nothing: these are definitions.
-use Prim.Native.Nat.{ℕ, zero, suc, _+_, _-_}
+use Prim.Native.Nat.{ℕ, _+_}
 use mathlib.Core.Bool.{true, false}
 use mathlib.Core.List.{List, [], _∷_}
 use lib.ListN.{getD, drop}
 use Rattle.reading.specs.Readers.{many}
-use Rattle.reading.specs.Walks.{Met, item, refused, Walked}
-use Rattle.lexis.specs.declared.Class.the-variants.{Blank}
-use Rattle.lexis.specs.Bytes.{inClass}
+use Rattle.reading.specs.Walks.{Met, item, refused}
+use Rattle.lexis_rules.specs.declared.Class.the-variants.{Blank}
+use Rattle.lexis_rules.specs.Bytes.{inClass}
 use Rattle.block.specs.declared.Walk.{Walk}
 use Rattle.block.specs.declared.Next.{Next}
 use Rattle.block.specs.declared.Next.the-variants as next
-use Rattle.block.specs.declared.Entries.{Entries}
-use Rattle.block.specs.declared.Listed.{Listed}
-use Rattle.block.specs.declared.Listed.the-variants as listed
-use Rattle.block.specs.declared.Checked.{Checked}
-use Rattle.block.specs.declared.Checked.the-variants as checked
-use Rattle.block.specs.Fields.{Field, lineText, folded, fieldAt}
-use Rattle.block.specs.OwnList.{entryAt}
+use Rattle.block_rules.specs.Fields.{Field, lineText, folded, fieldAt}
 
 -- ==== fields
 
@@ -36,27 +30,6 @@ nextFrom at count (x ∷ xs) = nextOf at (fieldAt at count (x ∷ xs))
 
 abbrev pub nextAt : List ℕ → Walk → Next
 nextAt s w = nextFrom (w .at) (w .count) (drop (w .at) s)
-
--- ==== entries
-
-abbrev pub freshEntries : Entries
-freshEntries = record { at = 0; count = 0 }
-
--- an entry by the places where it starts and where its LF stands; or the bad entry's place
-abbrev pub listedOf : ℕ → Met (List ℕ) → Listed
-listedOf at (item t n) = listed.Entry at (at + (n - 1))
-listedOf at (refused n p) = listed.Bad p
-
-unfoldable pub listedFrom : ℕ → ℕ → List ℕ → Listed
-listedFrom at count [] = listed.End
-listedFrom at count (x ∷ xs) = listedOf at (entryAt at count (x ∷ xs))
-
-abbrev pub listedAt : List ℕ → Entries → Listed
-listedAt s w = listedFrom (w .at) (w .count) (drop (w .at) s)
-
--- the list is good, or bad from the start of its first bad entry
-abbrev pub checkedOf : Walked (List ℕ) → Checked
-checkedOf w = elim (w .number) [ zero ↦ checked.Good | suc n ↦ checked.Bad (w .place) ]
 
 -- ==== the last part of a step, which only private functions say
 

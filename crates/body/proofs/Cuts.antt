@@ -10,12 +10,12 @@ use Rattle.reading.specs.Parsers.{got}
 use Rattle.reading.specs.Locality.{Ends}
 use Rattle.reading.proofs.Sequencing.{skipping-is, skipping-inv}
 use Rattle.reading.proofs.Steadiness.{steady-exact}
-use Rattle.lexis.specs.Pieces.{space}
-use Rattle.lexis.specs.Words.{skip}
-use Rattle.lexis.proofs.Steadiness.{skip-steady}
-use Rattle.resinfo.specs.Results.{Result, result}
-use Rattle.resinfo.proofs.Following.{Closed}
-use Rattle.resinfo.proofs.Results.{result-steady}
+use Rattle.lexis_rules.specs.Pieces.{space}
+use Rattle.lexis_rules.specs.Words.{skip}
+use Rattle.lexis_rules.proofs.Steadiness.{skip-steady}
+use Rattle.resinfo_rules.specs.Results.{Result, result}
+use Rattle.resinfo_rules.proofs.Following.{Closed}
+use Rattle.resinfo_rules.proofs.Results.{result-steady}
 use Rattle.body.specs.Body.{resinfo}
 use Rattle.body.specs.Newer.{IsResult}
 use Rattle.body.proofs.Sequence.{Reads, more, result-solid, resinfo-steady, resinfo-is, reads-closed, reads-rest, reads-unspaced}

@@ -8,11 +8,11 @@ use mathlib.Core.List.{List, [], _∷_, List·Memᴰ, map}
 use lib.Dec.{lit≤}
 use lib.ListN.{length, take}
 use Rattle.reading.specs.Texts.{bytes}
-use Rattle.resinfo.specs.Results.{Result, one}
+use Rattle.resinfo_rules.specs.Results.{Result, one}
 use Rattle.body.specs.Body.{reading}
 use Rattle.body.specs.Report.{Answer, answer, report}
 use Rattle.body.specs.Newer.{Names, WithinLimit, WellFormed, resultsOf, IsResult, OneMore}
-use Rattle.body.specs.Beside.{beside, putIn}
+use Rattle.body.specs.Beside.{insertionPlaces, insertAt}
 use Rattle.body.proofs.Opened.{opened}
 use Rattle.body.proofs.Readings.{report-is, newer-same}
 use Rattle.body.proofs.Ignored.{newer-ignored, putIn-length, ignored-beside, places-four}
@@ -31,16 +31,16 @@ newer-header b c v n m B C ne s l k room =
 -- a well-formed result whose method version isn't 1, put beside any result of a well-formed version 1 field, changes neither number nor
 -- place nor bytes written, and where the report fits one more is counted as ignored, for every room
 pub newer-result : (b w : List ℕ) (r : Result) → WellFormed b → IsResult w r → (r .methodspec .version ≡ one → ⊥)
-    → (k : ℕ) → List·Memᴰ k (beside b) → WithinLimit (putIn k w b) → (room : ℕ) → OneMore (report (putIn k w b) room) (report b room)
+    → (k : ℕ) → List·Memᴰ k (insertionPlaces b) → WithinLimit (insertAt k w b) → (room : ℕ) → OneMore (report (insertAt k w b) room) (report b room)
 newer-result b w r good W ne k K l room = ignored-beside b w r good W (newer-ignored r ne) k K l room
 
 -- the places beside its results are four for each
-pub four-places : (b : List ℕ) → WellFormed b → length (beside b) ≡ 4 * length (resultsOf (reading b))
+pub four-places : (b : List ℕ) → WellFormed b → length (insertionPlaces b) ≡ 4 * length (resultsOf (reading b))
 four-places = places-four
 
 -- ==== an instance of each
 
-two-not-one : bytes "2" ≡ one → ⊥
+pub two-not-one : bytes "2" ≡ one → ⊥
 two-not-one e = let z : _≡_ {A = ℕ} 50 49 = cc in omega arith
 
 -- whatever a newer writer puts behind its number
@@ -57,15 +57,15 @@ abbrev new : List ℕ
 new = bytes ";dkim/2 = pass reason=\"a;b\" \r\n header.(x)d=e"
 
 -- of the first result: the far side of the space before it, its start, its end, the far side of the space behind it; then of the second
-old-places : beside old ≡ 2 ∷ 6 ∷ 36 ∷ 37 ∷ 36 ∷ 37 ∷ 48 ∷ 53 ∷ []
+old-places : insertionPlaces old ≡ 2 ∷ 6 ∷ 36 ∷ 37 ∷ 36 ∷ 37 ∷ 48 ∷ 53 ∷ []
 unfolding opened
 old-places = refl
 
-sized-instance : (k : ℕ) → WithinLimit (putIn k new old)
+sized-instance : (k : ℕ) → WithinLimit (insertAt k new old)
 sized-instance k = rw (putIn-length k new old) (lit≤ tt)
 
 result-instance : (k : ℕ) → List·Memᴰ k (2 ∷ 6 ∷ 36 ∷ 37 ∷ 36 ∷ 37 ∷ 48 ∷ 53 ∷ []) → (room : ℕ)
-    → OneMore (report (putIn k new old) room) (report old room)
+    → OneMore (report (insertAt k new old) room) (report old room)
 unfolding opened
 result-instance k K room = newer-result old new _ refl refl two-not-one k K (sized-instance k) room
 
@@ -81,7 +81,7 @@ unfolding opened
 old-report = refl
 
 new-reports :
-    map (λ (k : ℕ). report (putIn k new old) 100) (2 ∷ 6 ∷ 36 ∷ 37 ∷ 48 ∷ 53 ∷ 41 ∷ [])
+    map (λ (k : ℕ). report (insertAt k new old) 100) (2 ∷ 6 ∷ 36 ∷ 37 ∷ 48 ∷ 53 ∷ 41 ∷ [])
     ≡ says 0 lines 1 ∷ says 0 lines 1 ∷ says 0 lines 1 ∷ says 0 lines 1 ∷ says 0 lines 1 ∷ says 0 lines 1 ∷ says 9 [] 0 ∷ []
 unfolding opened
 new-reports = refl

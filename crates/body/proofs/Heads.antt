@@ -20,18 +20,18 @@ use Rattle.reading.proofs.Sequencing.{bind-got, bind-inv, give-is, give-inv, ah
 use Rattle.reading.proofs.Bounds.{within-weaker, bind-within, bind-within₂, give-within, ahead-within, text-within, optional-within}
 use Rattle.reading.proofs.Openings.{bind-opens, text-opens, opens-weaker, zero-front, bind-front, optional-front}
 use Rattle.reading.proofs.Steadiness.{steady-weaker, bind-steady, then-steady, zero-steady, map-steady, give-steady, ahead-steady, text-steady, optional-steady}
-use Rattle.lexis.specs.declared.Class.the-variants.{Delimiter, Digit}
-use Rattle.lexis.specs.Bytes.{inClass}
-use Rattle.lexis.specs.Pieces.{space, quoted, digits}
-use Rattle.lexis.specs.Words.{valueText, skip, gap, readDigits}
-use Rattle.lexis.proofs.Pieces.{quoted-fits}
-use Rattle.lexis.proofs.Locality.{quoted-local}
-use Rattle.lexis.proofs.Steadiness.{skip-within, skip-steady, gap-within, gap-steady, digits-within, digits-opens, digits-steady}
-use Rattle.authserv.specs.Identifier.{identifierByte, identifierToken, identifierValue, identifier}
-use Rattle.authserv.specs.Version.{stated}
-use Rattle.resinfo.specs.Results.{orOne}
-use Rattle.resinfo.proofs.Opened as resinfo
-use Rattle.resinfo.proofs.Following.{Delimited, Closed, solid, delimited-ends, gap-delimited, closed-delimited, closed-gap}
+use Rattle.lexis_rules.specs.declared.Class.the-variants.{Delimiter, Digit}
+use Rattle.lexis_rules.specs.Bytes.{inClass}
+use Rattle.lexis_rules.specs.Pieces.{space, quoted, digits}
+use Rattle.lexis_rules.specs.Words.{valueText, skip, gap, readDigits}
+use Rattle.lexis_rules.proofs.Pieces.{quoted-fits}
+use Rattle.lexis_rules.proofs.Locality.{quoted-local}
+use Rattle.lexis_rules.proofs.Steadiness.{skip-within, skip-steady, gap-within, gap-steady, digits-within, digits-opens, digits-steady}
+use Rattle.authserv_rules.specs.Identifier.{identifierByte, identifierToken, identifierValue, identifier}
+use Rattle.authserv_rules.specs.Version.{stated}
+use Rattle.resinfo_rules.specs.Results.{orOne}
+use Rattle.resinfo_rules.proofs.Opened as resinfo
+use Rattle.resinfo_rules.proofs.Following.{Delimited, Closed, solid, delimited-ends, gap-delimited, closed-delimited, closed-gap}
 use Rattle.body.specs.Body.{Head, head}
 use Rattle.body.specs.Newer.{naming}
 

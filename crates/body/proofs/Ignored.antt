@@ -11,13 +11,13 @@ use lib.Seq.{drop-append-seam, drop-drop, take-add, length-take-le}
 use Rattle.sequences.proofs.Booleans.{no-true}
 use Rattle.reading.specs.Parsers.{got}
 use Rattle.reading.proofs.Steadiness.{steady-exact}
-use Rattle.resinfo.specs.Results.{Result, one}
-use Rattle.resinfo.specs.Table.{knownVersion, knownMethod, understood}
-use Rattle.resinfo.proofs.Following.{Closed, closed-delimited}
+use Rattle.resinfo_rules.specs.Results.{Result, one}
+use Rattle.resinfo_rules.specs.Table.{knownVersion, knownMethod, understood}
+use Rattle.resinfo_rules.proofs.Following.{Closed, closed-delimited}
 use Rattle.body.specs.Body.{results, head, resinfos, payload, reading}
 use Rattle.body.specs.Report.{idLine, lines, ignoredOf, refusal, fitted, answer, report}
 use Rattle.body.specs.Newer.{WellFormed, resultsOf, IsResult, WithinLimit, OneMore}
-use Rattle.body.specs.Beside.{beside, putIn}
+use Rattle.body.specs.Beside.{insertionPlaces, insertAt}
 use Rattle.body.proofs.Heads.{head-within, head-steady}
 use Rattle.body.proofs.Readings.{report-is, same-not, reading-is, headed-is, payload-is, Sound, well-formed-inv, Payload, neither, word, some, payload-cases}
 use Rattle.body.proofs.Sequence.{Reads, reads-closed, reads-inv, reads-is}
@@ -53,8 +53,8 @@ fitted-more room out k = go (leb (length out) room) refl
 
 -- ==== a result put in
 
-pub putIn-length : (k : ℕ) (w b : List ℕ) → length (putIn k w b) ≡ length b + length w
-unfolding putIn
+pub putIn-length : (k : ℕ) (w b : List ℕ) → length (insertAt k w b) ≡ length b + length w
+unfolding insertAt
 putIn-length k w b = simp length-append (omega (arith, simp length-append at (ap length (take-append-drop k b))))
 
 payload-put : (i xs : List ℕ) (a : Result) (x y : List Result) → Reads xs (x ++ (a ∷ y)) → payload i xs ≡ results i (x ++ (a ∷ y))
@@ -82,8 +82,8 @@ module _ (b w : List ℕ) (a : Result) (W : IsResult w a) (B : Sound b) (rs : Li
     closed : Closed changed
     closed = reads-closed (placed .reads)
 
-    is-changed : putIn (n + j) w b ≡ take n b ++ changed
-    unfolding putIn
+    is-changed : insertAt (n + j) w b ≡ take n b ++ changed
+    unfolding insertAt
     is-changed = rw (take-add n j b, ← drop-drop j n b) (append-assoc (take n b) (take j xs) (w ++ drop j xs))
 
     head-same : head (take n b ++ changed) ≡ got (B .heads) (length (take n b))
@@ -92,34 +92,34 @@ module _ (b w : List ℕ) (a : Result) (W : IsResult w a) (B : Sound b) (rs : Li
         let e : head (take n b ++ xs) ≡ got (B .heads) (length (take n b)) = rw (take-append-drop n b, l) (B .reads) in
         steady-exact head Closed head-steady (take n b) xs changed (B .heads) e closed
 
-    reading-put : reading (putIn (n + j) w b) ≡ results (B .heads .identifier) all
+    reading-put : reading (insertAt (n + j) w b) ≡ results (B .heads .identifier) all
     reading-put =
         let e = reading-is (take n b ++ changed) (B .heads) (length (take n b)) head-same in
         ap reading is-changed
         ∙ (e ∙ (rw (drop-append-seam (take n b) changed) (headed-is (B .heads) changed (closed-delimited changed closed) (B .first))
         ∙ payload-put (B .heads .identifier) changed a (placed .before) (placed .behind) (placed .reads)))
 
-    report-put : reading b ≡ results (B .heads .identifier) rs → understood a ≡ false → WithinLimit (putIn (n + j) w b) → WithinLimit b → (room : ℕ)
-        → OneMore (report (putIn (n + j) w b) room) (report b room)
+    report-put : reading b ≡ results (B .heads .identifier) rs → understood a ≡ false → WithinLimit (insertAt (n + j) w b) → WithinLimit b → (room : ℕ)
+        → OneMore (report (insertAt (n + j) w b) room) (report b room)
     unfolding answer
     report-put S U L M room =
         let x = placed .before in
         let y = placed .behind in
         let out = idLine (B .heads .identifier) ++ lines rs in
         let old : report b room ≡ fitted room 0 out (ignoredOf rs) = report-is b room M ∙ rw S in
-        let new : report (putIn (n + j) w b) room ≡ fitted room 0 out (suc (ignoredOf rs)) =
-        report-is (putIn (n + j) w b) room L ∙ rw (reading-put, lines-put a U x y, ignored-put a U x y, ← placed .whole) in
+        let new : report (insertAt (n + j) w b) room ≡ fitted room 0 out (suc (ignoredOf rs)) =
+        report-is (insertAt (n + j) w b) room L ∙ rw (reading-put, lines-put a U x y, ignored-put a U x y, ← placed .whole) in
         rw (new, old) (fitted-more room out (ignoredOf rs))
 
 -- at any place beside a result
 pub ignored-beside : (b w : List ℕ) (a : Result) → WellFormed b → IsResult w a → understood a ≡ false
-    → (k : ℕ) → List·Memᴰ k (beside b) → WithinLimit (putIn k w b) → (room : ℕ) → OneMore (report (putIn k w b) room) (report b room)
+    → (k : ℕ) → List·Memᴰ k (insertionPlaces b) → WithinLimit (insertAt k w b) → (room : ℕ) → OneMore (report (insertAt k w b) room) (report b room)
 ignored-beside b w a good W U k K L room = go (payload-cases (B .heads .identifier) (drop (B .size) b))
   where
     B : Sound b
     B = well-formed-inv b good
 
-    go : Payload (B .heads .identifier) (drop (B .size) b) → OneMore (report (putIn k w b) room) (report b room)
+    go : Payload (B .heads .identifier) (drop (B .size) b) → OneMore (report (insertAt k w b) room) (report b room)
     go (neither p) = absurd (no-true (rw (B .says, p) at good))
     go (word n e p) = absurd (List·Memᴰ·not-nil (rw (word-beside b (B .heads) (B .size) (B .reads) n e) at K))
     go (some rs m e p) =
@@ -128,13 +128,13 @@ ignored-beside b w a good W U k K L room = go (payload-cases (B .heads .identifi
         rw (F .is) (report-put b w a W B rs m e (F .away) (F .cuts) (B .says ∙ p) U (rw (F .is) at L) M room)
 
 -- four places for each result; the word none has none
-pub places-four : (b : List ℕ) → WellFormed b → length (beside b) ≡ 4 * length (resultsOf (reading b))
+pub places-four : (b : List ℕ) → WellFormed b → length (insertionPlaces b) ≡ 4 * length (resultsOf (reading b))
 places-four b good = go (payload-cases (B .heads .identifier) (drop (B .size) b))
   where
     B : Sound b
     B = well-formed-inv b good
 
-    go : Payload (B .heads .identifier) (drop (B .size) b) → length (beside b) ≡ 4 * length (resultsOf (reading b))
+    go : Payload (B .heads .identifier) (drop (B .size) b) → length (insertionPlaces b) ≡ 4 * length (resultsOf (reading b))
     go (neither p) = absurd (no-true (rw (B .says, p) at good))
     go (word n e p) = rw (B .says, p, word-beside b (B .heads) (B .size) (B .reads) n e)
     go (some rs m e p) = rw (B .says, p) (beside-four b (B .heads) (B .size) (B .reads) (reads-inv rs (drop (B .size) b) m e))

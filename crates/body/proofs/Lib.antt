@@ -1,4 +1,7 @@
 pub mod Opened
+pub mod ReportExamples
+pub mod BodyExamples
+pub mod NewerExamples
 pub mod Samples
 pub mod Heads
 pub mod Readings
@@ -10,3 +13,6 @@ pub mod Ignored
 pub mod Demand3
 pub mod Weights
 pub mod Sizes
+pub mod Headlines
+pub mod Ways
+pub mod Rooms

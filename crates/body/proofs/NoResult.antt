@@ -9,9 +9,9 @@ use lib.Seq.{drop-drop}
 use Rattle.reading.specs.Texts.{bytes, same, starts}
 use Rattle.reading.specs.Parsers.{nothing, got, Parser, _>>=_, _>>_, when, end, byte, optional}
 use Rattle.reading.proofs.Sequencing.{bind-none, bind-stuck, bind-inv, when-inv, end-inv, byte-not, skipping-is, skipping-inv, optional-none}
-use Rattle.lexis.specs.Pieces.{space}
-use Rattle.lexis.specs.Words.{skip, readKeyword, readWord, readDigits}
-use Rattle.resinfo.specs.Results.{mark, methodVersion, methodspec, result}
+use Rattle.lexis_rules.specs.Pieces.{space}
+use Rattle.lexis_rules.specs.Words.{skip, readKeyword, readWord, readDigits}
+use Rattle.resinfo_rules.specs.Results.{mark, methodVersion, methodspec, result}
 use Rattle.body.specs.Body.{resinfo, wordNone}
 use Rattle.body.proofs.Sequence.{resinfo-not}
 

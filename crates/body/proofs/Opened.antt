@@ -1,15 +1,15 @@
 -- Every definition of a whole body and its report opened at once: `unfolding opened` lets a proof compute with all of them.
 -- Assumes nothing.
-use Rattle.authserv.specs.Identifier.{identifierByte, identifier}
-use Rattle.authserv.specs.Version.{stated}
-use Rattle.resinfo.proofs.Opened as resinfo
+use Rattle.authserv_rules.specs.Identifier.{identifierByte, identifier}
+use Rattle.authserv_rules.specs.Version.{stated}
+use Rattle.resinfo_rules.proofs.Opened as resinfo
 use Rattle.body.specs.Body as body
 use Rattle.body.specs.Report.{plain, escape, line, idLine, versionLine, noneLine, methodLine, reasonLine, letterOf, propertyLine, propertyLines, resultLines, lines, ignoredOf, refusal, fitted, answer, report}
 use Rattle.body.specs.Newer.{naming}
-use Rattle.body.specs.Beside.{sized, extent, around, beside, putIn}
+use Rattle.body.specs.Beside.{sized, extent, placesAround, insertionPlaces, insertAt}
 
 unfoldable pub opened : Unit {0}
 unfolding resinfo.opened identifierByte identifier stated body.head body.resinfo body.resinfos body.wordNone body.payload body.headed body.reading
     plain escape line idLine versionLine noneLine methodLine reasonLine letterOf propertyLine propertyLines resultLines lines ignoredOf
-    refusal fitted answer report naming sized extent around beside putIn
+    refusal fitted answer report naming sized extent placesAround insertionPlaces insertAt
 opened = tt

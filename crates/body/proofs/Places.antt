@@ -10,12 +10,12 @@ use lib.Seq.{drop-drop, take-add, length-take-le}
 use Rattle.reading.specs.Parsers.{Got, nothing, got, Parser, _>>=_, give, several}
 use Rattle.reading.proofs.Sequencing.{no-got, bind-got, bind-inv, give-is, give-inv, skipping-is, skipping-inv}
 use Rattle.reading.proofs.Repeats.{several-none, several-again, several-total, Turn, stop, turn, several-inv}
-use Rattle.lexis.specs.Pieces.{space}
-use Rattle.lexis.specs.Words.{skip}
-use Rattle.lexis.proofs.Pieces.{space-fits}
-use Rattle.resinfo.specs.Results.{Result, result}
+use Rattle.lexis_rules.specs.Pieces.{space}
+use Rattle.lexis_rules.specs.Words.{skip}
+use Rattle.lexis_rules.proofs.Pieces.{space-fits}
+use Rattle.resinfo_rules.specs.Results.{Result, result}
 use Rattle.body.specs.Body.{Head, head, resinfo, wordNone}
-use Rattle.body.specs.Beside.{sized, Extent, extent, around, beside}
+use Rattle.body.specs.Beside.{sized, Extent, extent, placesAround, insertionPlaces}
 use Rattle.body.proofs.Sequence.{resinfo-within, resinfo-is, resinfo-inv, Reads, over, more, over-none}
 use Rattle.body.proofs.NoResult.{word-no-result}
 use Rattle.body.proofs.Cuts.{Cut, touching, spaced, beyond}
@@ -136,36 +136,36 @@ later b n z m S i F =
 
 -- one of the four places of a result, or a place beside a later one
 sorts : (b : List ℕ) (n : ℕ) (z : Extent) (zs : List Extent) (m : ℕ) → Spanned (drop n b) z m
-    → ((i : ℕ) → List·Memᴰ i (around b (n + (z .before + z .size)) zs) → Found b (n + (z .before + z .size)) i)
-    → (i : ℕ) → List·Memᴰ i (around b n (z ∷ zs)) → Found b n i
-unfolding around
+    → ((i : ℕ) → List·Memᴰ i (placesAround b (n + (z .before + z .size)) zs) → Found b (n + (z .before + z .size)) i)
+    → (i : ℕ) → List·Memᴰ i (placesAround b n (z ∷ zs)) → Found b n i
+unfolding placesAround
 sorts b n z zs m S rest i p = first (List·Memᴰ·cases-cons p)
   where
     e : ℕ
     e = n + (z .before + z .size)
 
-    fourth : (i ≡ e + space (drop e b)) ⊎ List·Memᴰ i (around b e zs) → Found b n i
+    fourth : (i ≡ e + space (drop e b)) ⊎ List·Memᴰ i (placesAround b e zs) → Found b n i
     fourth (inl q) = later b n z m S i (record { away = space (drop e b); is = q; cuts = split-spaced (drop e b) })
     fourth (inr q) = later b n z m S i (rest i q)
 
-    third : (i ≡ e) ⊎ List·Memᴰ i ((e + space (drop e b)) ∷ around b e zs) → Found b n i
+    third : (i ≡ e) ⊎ List·Memᴰ i ((e + space (drop e b)) ∷ placesAround b e zs) → Found b n i
     third (inl q) = later b n z m S i (record { away = 0; is = q ∙ omega arith; cuts = touching })
     third (inr q) = fourth (List·Memᴰ·cases-cons q)
 
-    second : (i ≡ n + z .before) ⊎ List·Memᴰ i (e ∷ (e + space (drop e b)) ∷ around b e zs) → Found b n i
+    second : (i ≡ n + z .before) ⊎ List·Memᴰ i (e ∷ (e + space (drop e b)) ∷ placesAround b e zs) → Found b n i
     second (inl q) = record { away = space (drop n b); is = q ∙ ap (λ (k : ℕ). n + k) (S .gap); cuts = split-spaced (drop n b) }
     second (inr q) = third (List·Memᴰ·cases-cons q)
 
-    first : (i ≡ n) ⊎ List·Memᴰ i ((n + z .before) ∷ e ∷ (e + space (drop e b)) ∷ around b e zs) → Found b n i
+    first : (i ≡ n) ⊎ List·Memᴰ i ((n + z .before) ∷ e ∷ (e + space (drop e b)) ∷ placesAround b e zs) → Found b n i
     first (inl q) = record { away = 0; is = q ∙ omega arith; cuts = touching }
     first (inr q) = second (List·Memᴰ·cases-cons q)
 
-around-cut : (b : List ℕ) (zs : List Extent) (n k : ℕ) → several extent 0 (drop n b) ≡ got zs k → (i : ℕ) → List·Memᴰ i (around b n zs) → Found b n i
-unfolding around
+around-cut : (b : List ℕ) (zs : List Extent) (n k : ℕ) → several extent 0 (drop n b) ≡ got zs k → (i : ℕ) → List·Memᴰ i (placesAround b n zs) → Found b n i
+unfolding placesAround
 around-cut b [] n k h i p = absurd (List·Memᴰ·not-nil p)
 around-cut b (z ∷ zs) n k h i p = go (λ n k h i p. around-cut b zs n k h i p) (several-inv extent (drop n b) (z ∷ zs) k h)
   where
-    go : ((n k : ℕ) → several extent 0 (drop n b) ≡ got zs k → (i : ℕ) → List·Memᴰ i (around b n zs) → Found b n i) → Turn extent (drop n b) (z ∷ zs) k
+    go : ((n k : ℕ) → several extent 0 (drop n b) ≡ got zs k → (i : ℕ) → List·Memᴰ i (placesAround b n zs) → Found b n i) → Turn extent (drop n b) (z ∷ zs) k
         → Found b n i
     go ih (stop e q) = absurd (let o : _≡_ {A = ℕ} 0 1 = cc in omega arith)
     go ih (turn z′ m l j e f g q) =
@@ -178,17 +178,17 @@ around-cut b (z ∷ zs) n k h i p = go (λ n k h i p. around-cut b zs n k h i p)
 -- ==== the places beside the results of a body
 
 module _ (b : List ℕ) (h : Head) (n : ℕ) (e : head b ≡ got h n) where
-  beside-is : (zs : List Extent) (k : ℕ) → several extent 0 (drop n b) ≡ got zs k → beside b ≡ around b n zs
-  unfolding beside
-  beside-is zs k f = rw (beside, e, f)
+  beside-is : (zs : List Extent) (k : ℕ) → several extent 0 (drop n b) ≡ got zs k → insertionPlaces b ≡ placesAround b n zs
+  unfolding insertionPlaces
+  beside-is zs k f = rw (insertionPlaces, e, f)
 
-  pub beside-found : (i : ℕ) → List·Memᴰ i (beside b) → Found b n i
+  pub beside-found : (i : ℕ) → List·Memᴰ i (insertionPlaces b) → Found b n i
   beside-found i p =
       let t = several-total extent 0 (drop n b) in
       around-cut b (t .list) n (t .size) (t .is) i (rw (beside-is (t .list) (t .size) (t .is)) at p)
 
-  around-length : (m : ℕ) (zs : List Extent) → length (around b m zs) ≡ 4 * length zs
-  unfolding around
+  around-length : (m : ℕ) (zs : List Extent) → length (placesAround b m zs) ≡ 4 * length zs
+  unfolding placesAround
   around-length m [] = refl
   around-length m (z ∷ zs) = omega (arith, around-length (m + (z .before + z .size)) zs)
 
@@ -207,12 +207,12 @@ module _ (b : List ℕ) (h : Head) (n : ℕ) (e : head b ≡ got h n) where
       rw (← y) (ap suc (as-many R (t .list) (t .size) (t .is)))
 
   -- four places for each result
-  pub beside-four : {rs : List Result} → Reads (drop n b) rs → length (beside b) ≡ 4 * length rs
+  pub beside-four : {rs : List Result} → Reads (drop n b) rs → length (insertionPlaces b) ≡ 4 * length rs
   beside-four {rs} R =
       let t = several-total extent 0 (drop n b) in
       rw (beside-is (t .list) (t .size) (t .is)) (around-length n (t .list) ∙ ap (λ (k : ℕ). 4 * k) (as-many R (t .list) (t .size) (t .is)))
 
   -- and none beside the word none
-  pub word-beside : (m : ℕ) → wordNone (drop n b) ≡ got tt m → beside b ≡ []
-  unfolding around
+  pub word-beside : (m : ℕ) → wordNone (drop n b) ≡ got tt m → insertionPlaces b ≡ []
+  unfolding placesAround
   word-beside m f = let xs = drop n b in beside-is [] 0 (several-none extent xs (extent-not xs (word-no-result xs tt m f)))

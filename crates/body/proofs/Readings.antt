@@ -12,11 +12,11 @@ use Rattle.reading.specs.Texts.{same, follows}
 use Rattle.reading.specs.Parsers.{Got, nothing, got}
 use Rattle.reading.proofs.Texts.{same-eq}
 use Rattle.reading.proofs.Steadiness.{steady-exact}
-use Rattle.lexis.specs.Limits.{byteLimit}
-use Rattle.lexis.specs.declared.Class.the-variants.{Delimiter}
-use Rattle.lexis.specs.Bytes.{inClass}
-use Rattle.resinfo.specs.Results.{Result, one}
-use Rattle.resinfo.proofs.Following.{Delimited}
+use Rattle.lexis_rules.specs.Limits.{byteLimit}
+use Rattle.lexis_rules.specs.declared.Class.the-variants.{Delimiter}
+use Rattle.lexis_rules.specs.Bytes.{inClass}
+use Rattle.resinfo_rules.specs.Results.{Result, one}
+use Rattle.resinfo_rules.proofs.Following.{Delimited}
 use Rattle.body.specs.Body.{Head, malformed, newer, noResult, results, head, resinfos, wordNone, payload, headed, reading}
 use Rattle.body.specs.Report.{answer, report}
 use Rattle.body.specs.Newer.{naming, WellFormed}

@@ -17,12 +17,12 @@ use Rattle.reading.proofs.Bounds.{bind-within₂}
 use Rattle.reading.proofs.Openings.{opens-weaker}
 use Rattle.reading.proofs.Steadiness.{then-steady}
 use Rattle.reading.proofs.Repeats.{several-none, several-again, Turn, stop, turn, several-inv}
-use Rattle.lexis.specs.Pieces.{space}
-use Rattle.lexis.specs.Words.{skip}
-use Rattle.lexis.proofs.Steadiness.{skip-within, skip-steady}
-use Rattle.resinfo.specs.Results.{Result, result}
-use Rattle.resinfo.proofs.Following.{Closed, solid, shut-out}
-use Rattle.resinfo.proofs.Results.{result-within, result-opens, result-steady}
+use Rattle.lexis_rules.specs.Pieces.{space}
+use Rattle.lexis_rules.specs.Words.{skip}
+use Rattle.lexis_rules.proofs.Steadiness.{skip-within, skip-steady}
+use Rattle.resinfo_rules.specs.Results.{Result, result}
+use Rattle.resinfo_rules.proofs.Following.{Closed, solid, shut-out}
+use Rattle.resinfo_rules.proofs.Results.{result-within, result-opens, result-steady}
 use Rattle.body.specs.Body.{resinfo, resinfos}
 
 -- ==== one result, with the space before it

@@ -13,17 +13,17 @@ use Rattle.reading.specs.Texts.{bytes, same, follows}
 use Rattle.reading.specs.Parsers.{Got, nothing, got, give, end, optional, several}
 use Rattle.reading.specs.Locality.{Within}
 use Rattle.reading.proofs.Bounds.{within-weaker, bind-within, bind-within₂, give-within, ahead-within, end-within, byte-within, optional-within, several-within}
-use Rattle.lexis.specs.Limits.{byteLimit}
-use Rattle.lexis.specs.declared.Class.the-variants.{Delimiter}
-use Rattle.lexis.specs.Bytes.{inClass}
-use Rattle.lexis.specs.Words.{valueText, skip, readWord}
-use Rattle.lexis.proofs.Steadiness.{skip-within, word-within}
-use Rattle.authserv.specs.Identifier.{identifierValue, identifier}
-use Rattle.authserv.specs.Version.{stated}
-use Rattle.resinfo.specs.Results.{Kind, Token, Quoted, Mailbox, AtDomain, Property, Methodspec, Result, mark, one, orOne, methodVersion, methodspec, reason, property, result}
-use Rattle.resinfo.specs.Table.{understood}
-use Rattle.resinfo.proofs.Following.{mark-within}
-use Rattle.resinfo.proofs.Results.{method-version-within}
+use Rattle.lexis_rules.specs.Limits.{byteLimit}
+use Rattle.lexis_rules.specs.declared.Class.the-variants.{Delimiter}
+use Rattle.lexis_rules.specs.Bytes.{inClass}
+use Rattle.lexis_rules.specs.Words.{valueText, skip, readWord}
+use Rattle.lexis_rules.proofs.Steadiness.{skip-within, word-within}
+use Rattle.authserv_rules.specs.Identifier.{identifierValue, identifier}
+use Rattle.authserv_rules.specs.Version.{stated}
+use Rattle.resinfo_rules.specs.Results.{Kind, Token, Quoted, Mailbox, AtDomain, Property, Methodspec, Result, mark, one, orOne, methodVersion, methodspec, reason, property, result}
+use Rattle.resinfo_rules.specs.Table.{understood}
+use Rattle.resinfo_rules.proofs.Following.{mark-within}
+use Rattle.resinfo_rules.proofs.Results.{method-version-within}
 use Rattle.body.specs.Body.{Head, Reading, unreadable, malformed, newer, noResult, results, head, resinfo, resinfos, wordNone, payload, headed, reading}
 use Rattle.body.specs.Report.{plain, escape, line, idLine, versionLine, noneLine, methodLine, reasonLine, letterOf, propertyLine, propertyLines, resultLines, lines, refusal, fitted, answer, report}
 use Rattle.body.proofs.Weights.{Sized, thrice, bind-sized, sized-more, give-sized, optional-sized, several-sized, within-sized, text-sized, value-short, keyword-sized, value-sized, digits-sized, gap-sized, mark-sized, skip-sized, ofValue, property-value-sized}

@@ -16,13 +16,13 @@ use Rattle.reading.specs.Locality.{Within}
 use Rattle.reading.proofs.Sequencing.{bind-inv, give-inv, taken-inv, text-inv, branch-yes, branch-no, Perhaps, absent, present, optional-inv}
 use Rattle.reading.proofs.Bounds.{when-within, byte-within}
 use Rattle.reading.proofs.Repeats.{Turn, stop, turn, several-inv}
-use Rattle.lexis.specs.declared.Class.the-variants.{Quoted}
-use Rattle.lexis.specs.Bytes.{lower}
-use Rattle.lexis.specs.Pieces.{item, token, quoted, value, keyword, digits, leading}
-use Rattle.lexis.specs.Words.{quotedText, valueText, keywordText, counted, skip, gap, readValue, readKeyword, readDigits}
-use Rattle.lexis.proofs.Steadiness.{skip-within, gap-within}
-use Rattle.resinfo.specs.Results.{Value, mark, next, readQuoted, inLocalPart, isLocalPart, domain, addressed, address, quotedMailbox, quotedValue, tokenValue, atBehind, propertyValue}
-use Rattle.resinfo.proofs.Following.{mark-within}
+use Rattle.lexis_rules.specs.declared.Class.the-variants.{Quoted}
+use Rattle.lexis_rules.specs.Bytes.{lower}
+use Rattle.lexis_rules.specs.Pieces.{item, token, quoted, value, keyword, digits, leading}
+use Rattle.lexis_rules.specs.Words.{quotedText, valueText, keywordText, counted, skip, gap, readValue, readKeyword, readDigits}
+use Rattle.lexis_rules.proofs.Steadiness.{skip-within, gap-within}
+use Rattle.resinfo_rules.specs.Results.{Value, mark, next, readQuoted, inLocalPart, isLocalPart, domain, addressed, address, quotedMailbox, quotedValue, tokenValue, atBehind, propertyValue}
+use Rattle.resinfo_rules.proofs.Following.{mark-within}
 
 -- ==== what a parser yields weighs no more than three times what it takes, and k more
 

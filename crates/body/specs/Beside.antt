@@ -4,9 +4,9 @@ use Prim.Native.Nat.{ℕ, _+_}
 use mathlib.Core.List.{List, [], _∷_, _++_}
 use lib.ListN.{take, drop}
 use Rattle.reading.specs.Parsers.{nothing, got, Parser, _>>=_, _>>_, give, several}
-use Rattle.lexis.specs.Pieces.{space}
-use Rattle.lexis.specs.Words.{skip}
-use Rattle.resinfo.specs.Results.{result}
+use Rattle.lexis_rules.specs.Pieces.{space}
+use Rattle.lexis_rules.specs.Words.{skip}
+use Rattle.resinfo_rules.specs.Results.{result}
 use Rattle.body.specs.Body.{head}
 
 -- how many bytes p takes
@@ -26,18 +26,18 @@ extent = do
 
 -- of each result of a body, where the part before the first ends at n: the far side of the space before it, its start, its end, and the
 -- far side of the space behind it
-unfoldable pub around : List ℕ → ℕ → List Extent → List ℕ
-around body n [] = []
-around body n (z ∷ zs) = let e = n + (z .before + z .size) in n ∷ (n + z .before) ∷ e ∷ (e + space (drop e body)) ∷ around body e zs
+unfoldable pub placesAround : List ℕ → ℕ → List Extent → List ℕ
+placesAround body n [] = []
+placesAround body n (z ∷ zs) = let e = n + (z .before + z .size) in n ∷ (n + z .before) ∷ e ∷ (e + space (drop e body)) ∷ placesAround body e zs
 
 -- one put before or after it touches it, or stands on the far side of the space next to it
-unfoldable pub beside : List ℕ → List ℕ
-beside body =
+unfoldable pub insertionPlaces : List ℕ → List ℕ
+insertionPlaces body =
     elim (head body) [
       | nothing ↦ []
-      | got h n ↦ (elim (several extent 0 (drop n body)) [ nothing ↦ [] | got zs k ↦ around body n zs ])
+      | got h n ↦ (elim (several extent 0 (drop n body)) [ nothing ↦ [] | got zs k ↦ placesAround body n zs ])
     ]
 
 -- w put into a body at the place k
-unfoldable pub putIn : ℕ → List ℕ → List ℕ → List ℕ
-putIn k w body = take k body ++ (w ++ drop k body)
+unfoldable pub insertAt : ℕ → List ℕ → List ℕ → List ℕ
+insertAt k w body = take k body ++ (w ++ drop k body)

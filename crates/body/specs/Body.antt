@@ -7,12 +7,12 @@ use mathlib.Core.List.{List, [], _∷_}
 use lib.ListN.{drop}
 use Rattle.reading.specs.Texts.{bytes, same, follows}
 use Rattle.reading.specs.Parsers.{nothing, got, Parser, _>>=_, _>>_, give, end, optional, several}
-use Rattle.lexis.specs.declared.Class.the-variants.{Delimiter}
-use Rattle.lexis.specs.Bytes.{inClass}
-use Rattle.lexis.specs.Words.{skip, readWord}
-use Rattle.authserv.specs.Identifier.{identifier}
-use Rattle.authserv.specs.Version.{stated}
-use Rattle.resinfo.specs.Results.{Result, mark, one, orOne, result}
+use Rattle.lexis_rules.specs.declared.Class.the-variants.{Delimiter}
+use Rattle.lexis_rules.specs.Bytes.{inClass}
+use Rattle.lexis_rules.specs.Words.{skip, readWord}
+use Rattle.authserv_rules.specs.Identifier.{identifier}
+use Rattle.authserv_rules.specs.Version.{stated}
+use Rattle.resinfo_rules.specs.Results.{Result, mark, one, orOne, result}
 
 -- ==== what a body says
 

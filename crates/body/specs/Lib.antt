@@ -2,3 +2,4 @@ pub mod Body
 pub mod Report
 pub mod Newer
 pub mod Beside
+pub mod Answers

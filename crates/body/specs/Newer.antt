@@ -5,12 +5,12 @@ use mathlib.Core.Bool.{Bool, true, false}
 use mathlib.Core.List.{List, []}
 use lib.ListN.{length}
 use Rattle.reading.specs.Parsers.{got, Parser, _>>=_, _>>_, give, ahead}
-use Rattle.lexis.specs.Limits.{byteLimit}
-use Rattle.lexis.specs.declared.Class.the-variants.{Delimiter}
-use Rattle.lexis.specs.Bytes.{inClass}
-use Rattle.authserv.specs.Identifier.{identifier}
-use Rattle.authserv.specs.Version.{stated}
-use Rattle.resinfo.specs.Results.{Result, result}
+use Rattle.lexis_rules.specs.Limits.{byteLimit}
+use Rattle.lexis_rules.specs.declared.Class.the-variants.{Delimiter}
+use Rattle.lexis_rules.specs.Bytes.{inClass}
+use Rattle.authserv_rules.specs.Identifier.{identifier}
+use Rattle.authserv_rules.specs.Version.{stated}
+use Rattle.resinfo_rules.specs.Results.{Result, result}
 use Rattle.body.specs.Body.{Head, Reading, unreadable, malformed, newer, noResult, results, reading}
 use Rattle.body.specs.Report.{Answer}
 

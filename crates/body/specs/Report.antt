@@ -7,11 +7,11 @@ use mathlib.Core.Option.{Option, none, some}
 use lib.Dec.{eqb, leb}
 use lib.ListN.{length}
 use Rattle.reading.specs.Texts.{bytes}
-use Rattle.lexis.specs.Limits.{byteLimit}
-use Rattle.lexis.specs.declared.Class.the-variants.{Visible}
-use Rattle.lexis.specs.Bytes.{inClass}
-use Rattle.resinfo.specs.Results.{Kind, Token, Quoted, Mailbox, AtDomain, Property, Methodspec, Result}
-use Rattle.resinfo.specs.Table.{understood}
+use Rattle.lexis_rules.specs.Limits.{byteLimit}
+use Rattle.lexis_rules.specs.declared.Class.the-variants.{Visible}
+use Rattle.lexis_rules.specs.Bytes.{inClass}
+use Rattle.resinfo_rules.specs.Results.{Kind, Token, Quoted, Mailbox, AtDomain, Property, Methodspec, Result}
+use Rattle.resinfo_rules.specs.Table.{understood}
 use Rattle.body.specs.Body.{Reading, unreadable, malformed, newer, noResult, results, reading}
 
 -- ==== texts and lines

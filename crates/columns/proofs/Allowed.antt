@@ -13,11 +13,11 @@ use Rattle.sequences.proofs.Booleans.{and-right}
 use Rattle.reading.specs.Parsers.{Got, nothing, got, _>>_, give, when}
 use Rattle.reading.specs.Places.{from}
 use Rattle.reading.proofs.Places.{goes-on, stops, gives, passes, fails}
-use Rattle.resinfo.specs.Table.{listed, ptypes}
-use Rattle.resinfo.specs.Values.{span}
+use Rattle.resinfo_rules.specs.Table.{listed, ptypes}
+use Rattle.values.specs.Values.{span}
 use Rattle.compose.specs.Entries.{Entry, shown, isKeyword, stands, kindOf, allowed}
-use Rattle.columns.specs.declared.texts.Text as read
-use Rattle.columns.specs.declared.texts.Test.the-variants as test
+use Rattle.columns.specs.declared.coded.Text as read
+use Rattle.columns.specs.declared.coded.Test.the-variants as test
 use Rattle.columns.specs.Internal.{textOf, textAt, endOr, made, Shown, IsCoded, shownAt, ShownEnd, shownEnd, shownNot, ShownIs, shownIs, unshown}
 use Rattle.columns.proofs.Showing.{shown-unkind, shown-untabbed, shown-unfed, shown-found}
 

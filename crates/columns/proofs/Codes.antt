@@ -20,11 +20,11 @@ use lib.Seq.{drop-drop}
 use Rattle.compose.proofs.Coded.{coded-byte-within}
 use Rattle.reading.specs.Parsers.{Got, nothing, got, when, byte, several}
 use Rattle.reading.proofs.Sequencing.{bind-none, bind-stuck, bind-got, byte-is, byte-not, when-is, when-not, give-is, either-first, either-second}
-use Rattle.lexis.specs.declared.Class.the-variants.{Visible}
-use Rattle.lexis.specs.Bytes.{inClass}
+use Rattle.lexis_rules.specs.declared.Class.the-variants.{Visible}
+use Rattle.lexis_rules.specs.Bytes.{inClass}
 use Rattle.body.specs.Report.{plain}
 use Rattle.compose.specs.Entries.{single, isHex, hexValue, escaped}
-use Rattle.columns.specs.declared.texts.Code.{Code}
+use Rattle.columns.specs.declared.coded.Code.{Code}
 use Rattle.columns.specs.Internal.{codedByte, codeSize, codeValue, codeAt, textOf, hexOr}
 
 -- ==== hex digits

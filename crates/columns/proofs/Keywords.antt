@@ -16,10 +16,10 @@ use Rattle.reading.specs.Parsers.{nothing, byte, text}
 use Rattle.reading.proofs.Texts.{same-eq, same-refl}
 use Rattle.reading.proofs.Readers.{there-at}
 use Rattle.reading.proofs.Places.{goes-on, stops, byte-at, byte-none, text-at, text-none}
-use Rattle.lexis.specs.Bytes.{lower}
-use Rattle.lexis.specs.Pieces.{keyword}
-use Rattle.resinfo.specs.Table.{table, tabled}
-use Rattle.resinfo.specs.Values.{span}
+use Rattle.lexis_rules.specs.Bytes.{lower}
+use Rattle.lexis_rules.specs.Pieces.{keyword}
+use Rattle.resinfo_rules.specs.Table.{table, tabled}
+use Rattle.values.specs.Values.{span}
 use Rattle.compose.specs.Entries.{whole, isKeyword}
 use Rattle.compose.proofs.Keywords.{keyword-is, tabled-keywords}
 use Rattle.columns.specs.Internal.{columnSize, ColumnEnd, column, unclosed}

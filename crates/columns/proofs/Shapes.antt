@@ -16,9 +16,9 @@ use Rattle.reading.specs.Parsers.{nothing, got, _>>=_, byte, either, several}
 use Rattle.reading.specs.Places.{values}
 use Rattle.reading.specs.Locality.{Any}
 use Rattle.reading.proofs.Texts.{same-refl, same-eq}
-use Rattle.lexis.specs.Bytes.{lower}
-use Rattle.resinfo.specs.Results.{Token, Mailbox, AtDomain, next, domain}
-use Rattle.resinfo.specs.Table.{listed, ptypes}
+use Rattle.lexis_rules.specs.Bytes.{lower}
+use Rattle.resinfo_rules.specs.Results.{Token, Mailbox, AtDomain, next, domain}
+use Rattle.resinfo_rules.specs.Table.{listed, ptypes}
 use Rattle.body.specs.Report.{plain, escape}
 use Rattle.compose.specs.Entries.{single, escaped, each, whole, isText, isKeyword, localOf, domainOf, stands, kindOf}
 use Rattle.compose.specs.Promise.{Bytes}
@@ -26,7 +26,7 @@ use Rattle.compose.proofs.Readback.{several-reads}
 use Rattle.compose.proofs.Coded.{spelt, escape-joined, bytes-each, byte-coded, spelt-long}
 use Rattle.compose.proofs.Keywords.{keyword-is, ptype-keyword}
 use Rattle.compose.proofs.Signs.{plain-sign, other-sign, local-same, domain-same, domain-raw}
-use Rattle.columns.specs.declared.texts.Test.the-variants as test
+use Rattle.columns.specs.declared.coded.Test.the-variants as test
 use Rattle.columns.specs.Internal.{codedByte, textOf, inTest, IsCoded}
 use Rattle.columns.proofs.Tails.{text-test, token-test}
 

@@ -20,12 +20,12 @@ use Rattle.reading.proofs.Sequencing.{bind-got, bind-none, give-is}
 use Rattle.reading.proofs.Readers.{there-at}
 use Rattle.reading.proofs.Loops.{there-fits}
 use Rattle.reading.proofs.Places.{at-got, at-none, goes-on, stops, byte-at, byte-none}
-use Rattle.resinfo.specs.Values.{span}
+use Rattle.values.specs.Values.{span}
 use Rattle.body.specs.Report.{escape}
 use Rattle.compose.specs.Entries.{single, coded, kindOf, kindLetter}
 use Rattle.compose.proofs.Coded.{coded-finds}
-use Rattle.columns.specs.declared.texts.Test.the-variants as test
-use Rattle.columns.specs.declared.texts.Text as read
+use Rattle.columns.specs.declared.coded.Test.the-variants as test
+use Rattle.columns.specs.declared.coded.Text as read
 use Rattle.columns.specs.Internal.{codeSize, textOf, textAt, Shown, IsCoded, ShownEnd, shownEnd, shownNot}
 use Rattle.columns.proofs.Tails.{coded-is}
 use Rattle.columns.proofs.Shapes.{text-escape}

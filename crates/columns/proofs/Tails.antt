@@ -15,12 +15,12 @@ use Rattle.reading.proofs.Repeats.{several-total}
 use Rattle.reading.proofs.Readers.{there-at}
 use Rattle.reading.proofs.Loops.{there-fits}
 use Rattle.reading.proofs.Places.{at-got, goes-on, stops, gives, passes, fails, byte-at, byte-none}
-use Rattle.lexis.specs.Pieces.{token}
+use Rattle.lexis_rules.specs.Pieces.{token}
 use Rattle.compose.specs.Entries.{each, whole, quotable, isText, coded}
-use Rattle.columns.specs.declared.texts.Test.{Test}
-use Rattle.columns.specs.declared.texts.Test.the-variants.{Text, Token}
-use Rattle.columns.specs.declared.texts.Tail as tail
-use Rattle.columns.specs.declared.texts.Text as read
+use Rattle.columns.specs.declared.coded.Test.{Test}
+use Rattle.columns.specs.declared.coded.Test.the-variants.{Text, Token}
+use Rattle.columns.specs.declared.coded.Tail as tail
+use Rattle.columns.specs.declared.coded.Text as read
 use Rattle.columns.specs.Internal.{codedByte, codeSize, textOf, inTest, textAt, Tail, tailAt, TailEnd, ends, endless, endOr}
 use Rattle.columns.proofs.Codes.{size-some, size-none}
 

@@ -8,15 +8,15 @@ use lib.Dec.{eqb, ltb}
 use lib.ListN.{length, drop}
 use borrow.Author.Tests.{eq-eqb, ne-eqb, lt-ltb}
 use Rattle.sequences.proofs.Booleans.{both}
-use Rattle.lexis.specs.declared.Class.the-variants as class
-use Rattle.lexis.specs.Bytes.{inClass}
-use Rattle.authserv.specs.Identifier.{identifierByte}
-use Rattle.resinfo.specs.Results.{inLocalPart}
+use Rattle.lexis_rules.specs.declared.Class.the-variants as class
+use Rattle.lexis_rules.specs.Bytes.{inClass}
+use Rattle.authserv_rules.specs.Identifier.{identifierByte}
+use Rattle.resinfo_rules.specs.Results.{inLocalPart}
 use Rattle.compose.specs.Entries.{each, whole, quotable, isText}
-use Rattle.columns.specs.declared.texts.Test.{Test}
-use Rattle.columns.specs.declared.texts.Test.the-variants.{Text, Token, Identifier, Local}
-use Rattle.columns.specs.declared.texts.Code.{Code}
-use Rattle.columns.specs.declared.texts.Text as read
+use Rattle.columns.specs.declared.coded.Test.{Test}
+use Rattle.columns.specs.declared.coded.Test.the-variants.{Text, Token, Identifier, Local}
+use Rattle.columns.specs.declared.coded.Code.{Code}
+use Rattle.columns.specs.declared.coded.Text as read
 use Rattle.columns.specs.Internal.{codeSize, codeAt, textOf, inTest, textAt}
 use Rattle.columns.proofs.Codes.{text-none, text-more, text-on, text-off}
 use Rattle.reading.specs.Readers.{run, many}

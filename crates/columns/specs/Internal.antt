@@ -9,20 +9,20 @@ use lib.ListN.{length, getD, drop}
 use Rattle.reading.specs.Readers.{Reader, run, many}
 use Rattle.reading.specs.Parsers.{Got, nothing, got, Parser, _>>=_, _>>_, give, when, byte, text, either, several}
 use Rattle.reading.specs.Places.{from, values}
-use Rattle.lexis.specs.declared.Class.the-variants as class
-use Rattle.lexis.specs.Bytes.{inClass}
-use Rattle.lexis.specs.Pieces.{keyword}
-use Rattle.authserv.specs.Identifier.{identifierByte}
-use Rattle.resinfo.specs.Results.{Kind, Property, inLocalPart}
-use Rattle.resinfo.specs.Values.{span}
+use Rattle.lexis_rules.specs.declared.Class.the-variants as class
+use Rattle.lexis_rules.specs.Bytes.{inClass}
+use Rattle.lexis_rules.specs.Pieces.{keyword}
+use Rattle.authserv_rules.specs.Identifier.{identifierByte}
+use Rattle.resinfo_rules.specs.Results.{Kind, Property, inLocalPart}
+use Rattle.values.specs.Values.{span}
 use Rattle.body.specs.Report.{plain, escape}
 use Rattle.compose.specs.Promise.{Bytes}
 use Rattle.compose.specs.Entries.{Entry, shown, kindOf, kindLetter, stands, allowed, whole, single, isHex, hexValue, escaped, quotable, isText, coded}
-use Rattle.columns.specs.declared.texts.Code.{Code}
-use Rattle.columns.specs.declared.texts.Tail as tail
-use Rattle.columns.specs.declared.texts.Test.{Test}
-use Rattle.columns.specs.declared.texts.Test.the-variants as test
-use Rattle.columns.specs.declared.texts.Text as read
+use Rattle.columns.specs.declared.coded.Code.{Code}
+use Rattle.columns.specs.declared.coded.Tail as tail
+use Rattle.columns.specs.declared.coded.Test.{Test}
+use Rattle.columns.specs.declared.coded.Test.the-variants as test
+use Rattle.columns.specs.declared.coded.Text as read
 
 -- where a parser ended, or the place that it was given
 abbrev pub endOr : {A : Type 0} → ℕ → Got A → ℕ

@@ -9,8 +9,8 @@ ghost use mathlib.Core.List.{map};
 ghost use Prim.Native.Nat.{_+_};
 ghost use lib.ListN.{drop};
 ghost use Rattle.reading.specs.Texts.{same};
-ghost use Rattle.lexis.specs.Bytes.{lower};
-ghost use Rattle.resinfo.specs.Table.{table, tabled};
+ghost use Rattle.lexis_rules.specs.Bytes.{lower};
+ghost use Rattle.resinfo_rules.specs.Table.{table, tabled};
 ghost use Rattle.compose.specs.Entries.{isKeyword};
 ghost use Rattle.columns.specs.Internal.{columnSize};
 
@@ -31,7 +31,7 @@ pub fn is_lower(part: &[u8]) -> bool
 {
     let mut j: usize = 0;
     while j < part.len() {
-        if lexis::text::lower(part[j]) != part[j] {
+        if texts::lower(part[j]) != part[j] {
             return false;
         }
         j += 1;
@@ -45,7 +45,7 @@ pub fn is_known(method: &[u8], result: &[u8]) -> bool
 {
     if is_lower(method) {
         if is_lower(result) {
-            return resinfo::table::is_tabled(method, result);
+            return methods::is_tabled(method, result);
         }
     }
     false

@@ -4,8 +4,9 @@
 //   orbendash: 0: done
 // where all of the output has been written. Each is written in one call. `bin/orbendash` takes the exit status from this line and takes its
 // absence for a failure, so nothing that goes wrong on the way can look like success.
-use block::Entries;
+use answer_numbers::Number;
 use libc::STDERR_FILENO;
+use ownlist::entries::Entries;
 ghost use Prim.Native.Nat.{_≤_};
 ghost use lib.ListN.{length};
 
@@ -115,27 +116,27 @@ fn add_fault(list: &[u8], place: usize, out: &mut [u8], at: usize) -> usize
 fn add_meaning(number: u8, place: usize, list: &[u8], out: &mut [u8], at: usize) -> usize
     ensures { λ r. ⌜ r ≤ length (now (out .exit)) ⌝ }
 {
-    if number == 1 {
+    if number == Number::TOO_LONG {
         return super::lines::add(b"the block has more than 65,536 bytes", out, at);
     }
-    if number == 2 {
+    if number == Number::LINE_END {
         return super::lines::add(
             b"a CR without LF, an LF without CR, or a last line without CRLF",
             out,
             at,
         );
     }
-    if number == 3 {
+    if number == Number::NO_FIELD {
         return super::lines::add(
             b"an empty line, a first line that starts with space or tab, or a field without name or colon",
             out,
             at,
         );
     }
-    if number == 4 {
+    if number == Number::TOO_MANY_FIELDS {
         return super::lines::add(b"a 513th field", out, at);
     }
-    if number == 5 {
+    if number == Number::BAD_LIST {
         let named = super::lines::add(b"a bad entry of the list: ", out, at);
         return add_fault(list, place, out, named);
     }
@@ -146,10 +147,10 @@ fn add_meaning(number: u8, place: usize, list: &[u8], out: &mut [u8], at: usize)
 fn add_lines_meaning(number: u8, out: &mut [u8], at: usize) -> usize
     ensures { λ r. ⌜ r ≤ length (now (out .exit)) ⌝ }
 {
-    if number == 11 {
+    if number == Number::NO_SUCH_REPORT {
         return super::lines::add(b"no body has that report, at line ", out, at);
     }
-    if number == 1 {
+    if number == Number::TOO_LONG {
         return super::lines::add(b"the body would have more than 65,536 bytes, at ", out, at);
     }
     super::lines::add(b"the output is too long, at ", out, at)

@@ -2,7 +2,7 @@
 //
 // A text is put together in a lent buffer before any of it is written. The functions take the place at which the text so far ends and return
 // the new one. A text that finds no room fills the buffer to its last byte: `is_whole` tells.
-use authserv::own::Own;
+use authserv_rules::Own;
 ghost use Prim.Native.Nat.{_≤_};
 ghost use lib.ListN.{length};
 
@@ -18,7 +18,7 @@ pub fn add(text: &[u8], out: &mut [u8], at: usize) -> usize
     if text.len() >= reading::rest(out.len(), at) {
         return out.len();
     }
-    at + lexis::text::put_text(text, out, at)
+    at + texts::put_text(text, out, at)
 }
 
 // Adds a number in decimal digits.

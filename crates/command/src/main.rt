@@ -9,20 +9,21 @@
 // it ended (`answers.rt`): with the numbers of 01 and 02, or 64 for wrong usage, 66 for a list that can't be opened or read, 70 for a failure
 // of the program, 74 for an input that can't be read, or not whole, or an output that can't be written; 0 only where all of the output has been
 // written.
-mod answers;
-mod lines;
-mod transfer;
-
-use authserv::own::SPELLED;
-use block::Checked;
-use block::Entries;
+use answer_numbers::Number;
 use block::Next;
 use block::Walk;
 use lexis::Cursor;
 use libc::STDIN_FILENO;
 use libc::STDOUT_FILENO;
+use ownlist::SPELLED;
+use ownlist::entries::Checked;
+use ownlist::entries::Entries;
 ghost use Prim.Native.Nat.{_≤_};
 ghost use lib.ListN.{length};
+
+mod answers;
+mod lines;
+mod transfer;
 
 // The most bytes of a block that are read: one more than a block may have.
 const BLOCK: usize = Cursor::BYTES + 1;
@@ -54,7 +55,7 @@ fn put(text: &[u8]) {
 fn strip_block(block: &[u8], list: &[u8]) {
     let mut out = [0u8; BLOCK];
     let r = strip::strip(block, list, &mut out);
-    if r.number != 0 {
+    if r.number != Number::DONE {
         return answers::refuse(r.number, r.place, list);
     }
     if r.kept <= out.len() {
@@ -71,13 +72,13 @@ fn add_report(n: usize, own: &[u8], body: &[u8], out: &mut [u8], from: usize) ->
     let r = report::report(body, &mut text);
     let at = lines::add_field(
         n,
-        authserv::own::whose_spelled(own, body),
+        ownlist::whose_spelled(own, body),
         r.number,
         r.ignored,
         out,
         from,
     );
-    if r.number == 6 {
+    if r.number == Number::TOO_SHORT {
         return out.len();
     }
     if r.written <= text.len() {
@@ -91,7 +92,7 @@ fn add_if(n: usize, own: &[u8], name: &[u8], body: &[u8], out: &mut [u8], at: us
     requires { ⌜ at ≤ length (now out) ⌝ }
     ensures { λ r. ⌜ r ≤ length (now (out .exit)) ⌝ }
 {
-    if lexis::text::same_text(name, b"Authentication-Results") {
+    if texts::same_text(name, b"Authentication-Results") {
         return add_report(n, own, body, out, at);
     }
     at
@@ -133,7 +134,7 @@ fn add_reports(block: &[u8], own: &[u8], out: &mut [u8]) -> Reports
             }
             Next::End => {
                 return Reports {
-                    number: 0,
+                    number: Number::DONE,
                     place: 0,
                     end: to,
                 };
@@ -153,7 +154,7 @@ fn add_reports(block: &[u8], own: &[u8], out: &mut [u8]) -> Reports
 fn report_by(block: &[u8], own: &[u8], list: &[u8]) {
     let mut out = [0u8; REPORTS];
     let r = add_reports(block, own, &mut out);
-    if r.number != 0 {
+    if r.number != Number::DONE {
         return answers::refuse(r.number, r.place, list);
     }
     let end = r.end;
@@ -166,16 +167,16 @@ fn report_by(block: &[u8], own: &[u8], list: &[u8]) {
 // Reports a block: 1, then 5, then 2 to 4, and only then is anything written. The list is spelled once, for all fields.
 fn report_block(block: &[u8], list: &[u8]) {
     if lexis::too_long(block) {
-        return answers::refuse(1, 0, list);
+        return answers::refuse(Number::TOO_LONG, 0, list);
     }
-    match block::check_list(list) {
+    match ownlist::entries::check_list(list) {
         Checked::Bad { place } => {
-            return answers::refuse(5, place, list);
+            return answers::refuse(Number::BAD_LIST, place, list);
         }
         Checked::Good => {}
     }
     let mut own = [0u8; SPELLED];
-    let n = authserv::own::spell_list(list, &mut own);
+    let n = ownlist::spell_list(list, &mut own);
     if n <= own.len() {
         return report_by(block, &own[..n], list);
     }
@@ -218,7 +219,7 @@ fn with_list(strips: bool) {
 fn write_body(lines: &[u8]) {
     let mut out = [0u8; BLOCK];
     let r = writing::write(lines, &mut out);
-    if r.number != 0 {
+    if r.number != Number::DONE {
         return answers::refuse_lines(r.number, r.place);
     }
     if r.written <= out.len() {

@@ -12,7 +12,7 @@ use borrow.Author.Tests.{leb-true, leb-false, eq-eqb}
 use Rattle.sequences.proofs.Booleans.{both}
 use Rattle.reading.specs.Texts.{bytes}
 use Rattle.reading.specs.Walks.{Walked}
-use Rattle.lexis.specs.Limits.{byteLimit}
+use Rattle.lexis_rules.specs.Limits.{byteLimit}
 use Rattle.body.specs.Report.{lines}
 use Rattle.compose.specs.Entries.{Entry, lineOf}
 use Rattle.compose.specs.Bodies.{bodyOf}
@@ -23,7 +23,7 @@ use Rattle.compose.proofs.Lines.{Good}
 use Rattle.compose.proofs.Runs.{Runs, Stuck, Walk, accepted, refused, walk, walkedAs}
 use Rattle.compose.proofs.Flat.{body-joined}
 use Rattle.compose.proofs.Splits.{lines-joined}
-use Rattle.compose.proofs.Written.{body-bytes}
+use Rattle.compose.proofs.WrittenBodies.{body-bytes}
 use Rattle.compose.proofs.Reporting.{written-reports, reported-told}
 use Rattle.compose.proofs.Beginning.{map-length, told-lines, not-begun, begun, begins-less}
 

@@ -9,9 +9,9 @@ use borrow.Author.Tests.{leb-true, eqb-true}
 use Rattle.sequences.proofs.Booleans.{and-right}
 use Rattle.reading.specs.Texts.{bytes, within}
 use Rattle.reading.proofs.Texts.{one-in}
-use Rattle.lexis.specs.declared.Class.the-variants.{Digit, Keyword}
-use Rattle.lexis.specs.Bytes.{inClass, letter}
-use Rattle.resinfo.specs.Results.{alphanumeric, inLocalPart, inDomain}
+use Rattle.lexis_rules.specs.declared.Class.the-variants.{Digit, Keyword}
+use Rattle.lexis_rules.specs.Bytes.{inClass, letter}
+use Rattle.resinfo_rules.specs.Results.{alphanumeric, inLocalPart, inDomain}
 
 or-cases : {C : Type 0} (a b : Bool) → (a || b) ≡ true → (a ≡ true → C) → (b ≡ true → C) → C
 or-cases true b e f g = f refl

@@ -17,7 +17,7 @@ use Rattle.reading.specs.Parsers.{nothing, got, Parser, when, byte, either}
 use Rattle.reading.specs.Locality.{Any, Starts, Within}
 use Rattle.reading.proofs.Sequencing.{no-got, bind-none, byte-not, either-second}
 use Rattle.reading.proofs.Bounds.{bind-within, within-weaker, give-within, when-within, byte-within, either-within}
-use Rattle.lexis.specs.Bytes.{inClass}
+use Rattle.lexis_rules.specs.Bytes.{inClass}
 use Rattle.body.specs.Report.{hexDigit, plain, escape}
 use Rattle.compose.specs.Entries.{each, single, isHex, hexValue, escaped, coded}
 use Rattle.compose.specs.Promise.{Bytes}

@@ -9,8 +9,8 @@ use mathlib.Core.Option.{Option, none, some}
 use Rattle.sequences.proofs.Booleans.{no-true, and-left, and-right}
 use Rattle.reading.specs.Texts.{same}
 use Rattle.reading.proofs.Texts.{same-refl, same-eq}
-use Rattle.resinfo.specs.Results.{Property, Result, one}
-use Rattle.resinfo.specs.Table.{listed, table, ptypes, tabled, knownVersion, knownMethod, knownTypes, understood}
+use Rattle.resinfo_rules.specs.Results.{Property, Result, one}
+use Rattle.resinfo_rules.specs.Table.{listed, table, ptypes, tabled, knownVersion, knownMethod, knownTypes, understood}
 use Rattle.body.specs.Report.{methodLine, reasonLine, propertyLine, propertyLines, resultLines, lines, ignoredOf}
 use Rattle.compose.specs.Entries.{Entry, identified, unstated, judged, reasoned, shown, lineOf, isKeyword, allowed}
 use Rattle.compose.specs.Bodies.{piece, bodyOf}

@@ -16,15 +16,15 @@ use Rattle.reading.proofs.Texts.{same-refl}
 use Rattle.reading.proofs.Local.{run-local}
 use Rattle.reading.proofs.Readers.{run-fits, run-first}
 use Rattle.reading.proofs.Sequencing.{end-is}
-use Rattle.lexis.specs.declared.Class.the-variants as class
-use Rattle.lexis.specs.Bytes.{inClass}
-use Rattle.lexis.specs.Pieces.{space}
-use Rattle.lexis.specs.Words.{valueText, skip}
-use Rattle.authserv.specs.Identifier.{identifierByte, identifierToken, identifierValue, identifier}
-use Rattle.authserv.specs.Version.{stated}
-use Rattle.resinfo.specs.Results.{Result, one, orOne}
-use Rattle.resinfo.proofs.Opened as resinfo
-use Rattle.resinfo.proofs.Following.{Delimited, solid, delimited-ends}
+use Rattle.lexis_rules.specs.declared.Class.the-variants as class
+use Rattle.lexis_rules.specs.Bytes.{inClass}
+use Rattle.lexis_rules.specs.Pieces.{space}
+use Rattle.lexis_rules.specs.Words.{valueText, skip}
+use Rattle.authserv_rules.specs.Identifier.{identifierByte, identifierToken, identifierValue, identifier}
+use Rattle.authserv_rules.specs.Version.{stated}
+use Rattle.resinfo_rules.specs.Results.{Result, one, orOne}
+use Rattle.resinfo_rules.proofs.Opened as resinfo
+use Rattle.resinfo_rules.proofs.Following.{Delimited, solid, delimited-ends}
 use Rattle.body.specs.Body.{Head, malformed, noResult, results, head, resinfo, resinfos, payload, reading}
 use Rattle.body.specs.Newer.{WellFormed}
 use Rattle.body.proofs.Opened as body

@@ -17,15 +17,15 @@ use Rattle.reading.specs.Parsers.{text}
 use Rattle.reading.specs.Locality.{Ends}
 use Rattle.reading.proofs.Texts.{same-refl, same-eq}
 use Rattle.reading.proofs.Readers.{passing-inv, passing-yes}
-use Rattle.lexis.specs.declared.Class.the-variants as class
-use Rattle.lexis.specs.Bytes.{inClass, lower}
-use Rattle.lexis.specs.Pieces.{space, keyword, unhyphened}
-use Rattle.lexis.specs.Words.{keywordText, readKeyword, readWord}
-use Rattle.lexis.proofs.Pieces.{keyword-fits}
-use Rattle.lexis.proofs.Locality.{keyword-local}
-use Rattle.resinfo.specs.Table.{Row, listed, table, ptypes, tabled}
-use Rattle.resinfo.proofs.Opened as resinfo
-use Rattle.resinfo.proofs.Following.{solid}
+use Rattle.lexis_rules.specs.declared.Class.the-variants as class
+use Rattle.lexis_rules.specs.Bytes.{inClass, lower}
+use Rattle.lexis_rules.specs.Pieces.{space, keyword, unhyphened}
+use Rattle.lexis_rules.specs.Words.{keywordText, readKeyword, readWord}
+use Rattle.lexis_rules.proofs.Pieces.{keyword-fits}
+use Rattle.lexis_rules.proofs.Locality.{keyword-local}
+use Rattle.resinfo_rules.specs.Table.{Row, listed, table, ptypes, tabled}
+use Rattle.resinfo_rules.proofs.Opened as resinfo
+use Rattle.resinfo_rules.proofs.Following.{solid}
 use Rattle.compose.specs.Entries.{each, whole, isKeyword}
 use Rattle.compose.proofs.Readback.{Reads, last-reads, give-reads, when-reads, whole-reads}
 use Rattle.compose.proofs.Finds.{Finds, bind-finds, give-finds, text-finds}

@@ -9,8 +9,8 @@ use lib.ListN.{length, length-append}
 use Rattle.reading.specs.Texts.{bytes, oneOf}
 use Rattle.reading.specs.Walks.{Walked}
 use Rattle.reading.proofs.Cases.{copies}
-use Rattle.resinfo.proofs.Opened as resinfo
-use Rattle.authserv.specs.Identifier.{identifierToken}
+use Rattle.resinfo_rules.proofs.Opened as resinfo
+use Rattle.authserv_rules.specs.Identifier.{identifierToken}
 use Rattle.compose.specs.Entries.{Entry, identified, unstated, lineOf, each, whole, quotable, isText}
 use Rattle.compose.specs.Bodies.{guarded, quote, bareOr, piece, bodyOf}
 use Rattle.compose.specs.Compose.{front, closed, goes, final, entries}

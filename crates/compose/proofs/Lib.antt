@@ -14,7 +14,7 @@ pub mod Lines
 pub mod Runs
 pub mod Flat
 pub mod Splits
-pub mod Written
+pub mod WrittenBodies
 pub mod Reporting
 pub mod Beginning
 pub mod Answering

@@ -12,12 +12,12 @@ use Rattle.reading.specs.Parsers.{nothing, Parser, _>>=_, _>>_, give, when, byt
 use Rattle.reading.specs.Locality.{Any}
 use Rattle.reading.proofs.Texts.{one-in, same-eq}
 use Rattle.reading.proofs.Sequencing.{bind-none, byte-not}
-use Rattle.lexis.specs.Pieces.{keyword}
-use Rattle.lexis.proofs.Pieces.{keyword-fits}
-use Rattle.lexis.proofs.Locality.{keyword-local}
-use Rattle.resinfo.specs.Results.{Kind, Token, Quoted, Mailbox, AtDomain, Property}
-use Rattle.resinfo.specs.Table.{listed, table, ptypes, tabled}
-use Rattle.resinfo.proofs.Opened as resinfo
+use Rattle.lexis_rules.specs.Pieces.{keyword}
+use Rattle.lexis_rules.proofs.Pieces.{keyword-fits}
+use Rattle.lexis_rules.proofs.Locality.{keyword-local}
+use Rattle.resinfo_rules.specs.Results.{Kind, Token, Quoted, Mailbox, AtDomain, Property}
+use Rattle.resinfo_rules.specs.Table.{listed, table, ptypes, tabled}
+use Rattle.resinfo_rules.proofs.Opened as resinfo
 use Rattle.body.specs.Report.{escape, line, idLine, noneLine, methodLine, reasonLine, letterOf, propertyLine}
 use Rattle.compose.specs.Entries.{Entry, identified, unstated, judged, reasoned, shown, lineOf, whole, isText, isKeyword, single, literal, coded, kindOf, kindLetter, allowed, idEntry, noneEntry, methodEntry, reasonEntry, propertyEntry, entry}
 use Rattle.compose.specs.Promise.{Bytes}

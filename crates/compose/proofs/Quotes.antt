@@ -17,12 +17,12 @@ use Rattle.reading.specs.Locality.{Any, Fits, Local, Shut}
 use Rattle.reading.proofs.Texts.{one-in}
 use Rattle.reading.proofs.Readers.{many-none, many-more, lasts-none, lasts-more, choose-yes, choose-no, between-is}
 use Rattle.reading.proofs.Sequencing.{Taken, text-inv}
-use Rattle.lexis.specs.declared.Class.the-variants as class
-use Rattle.lexis.specs.Bytes.{inClass}
-use Rattle.lexis.specs.Pieces.{pair, fold, item, quoted}
-use Rattle.lexis.specs.Words.{quotedText, valueText}
-use Rattle.lexis.proofs.Locality.{quoted-shut}
-use Rattle.resinfo.specs.Results.{readQuoted}
+use Rattle.lexis_rules.specs.declared.Class.the-variants as class
+use Rattle.lexis_rules.specs.Bytes.{inClass}
+use Rattle.lexis_rules.specs.Pieces.{pair, fold, item, quoted}
+use Rattle.lexis_rules.specs.Words.{quotedText, valueText}
+use Rattle.lexis_rules.proofs.Locality.{quoted-shut}
+use Rattle.resinfo_rules.specs.Results.{readQuoted}
 use Rattle.compose.specs.Entries.{each, whole, quotable, isText}
 use Rattle.compose.specs.Bodies.{guarded, quote, bareOr}
 use Rattle.compose.specs.Promise.{Bytes}

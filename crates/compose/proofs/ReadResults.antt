@@ -11,13 +11,13 @@ use Rattle.reading.specs.Readers.{run, choose}
 use Rattle.reading.specs.Parsers.{Parser, _>>=_, _>>_, give, byte, text, optional, several}
 use Rattle.reading.specs.Locality.{Ends}
 use Rattle.reading.proofs.Readers.{run-fits}
-use Rattle.lexis.specs.declared.Class.the-variants as class
-use Rattle.lexis.specs.Bytes.{inClass}
-use Rattle.lexis.specs.Pieces.{token, quoted}
-use Rattle.lexis.specs.Words.{valueText, skip, gap, readValue, readKeyword, readWord}
-use Rattle.lexis.proofs.Locality.{token-local}
-use Rattle.resinfo.specs.Results.{Value, Property, Methodspec, Result, mark, propertyValue, methodspec, reason, property, result}
-use Rattle.resinfo.proofs.Results.{property-within}
+use Rattle.lexis_rules.specs.declared.Class.the-variants as class
+use Rattle.lexis_rules.specs.Bytes.{inClass}
+use Rattle.lexis_rules.specs.Pieces.{token, quoted}
+use Rattle.lexis_rules.specs.Words.{valueText, skip, gap, readValue, readKeyword, readWord}
+use Rattle.lexis_rules.proofs.Locality.{token-local}
+use Rattle.resinfo_rules.specs.Results.{Value, Property, Methodspec, Result, mark, propertyValue, methodspec, reason, property, result}
+use Rattle.resinfo_rules.proofs.Results.{property-within}
 use Rattle.compose.specs.Entries.{isText, isKeyword, stands}
 use Rattle.compose.specs.Promise.{Bytes}
 use Rattle.compose.proofs.Readback.{Each}

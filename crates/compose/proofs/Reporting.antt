@@ -10,8 +10,8 @@ use lib.Dec.{leb}
 use lib.ListN.{length}
 use borrow.Author.Tests.{le-leb}
 use Rattle.reading.specs.Texts.{bytes}
-use Rattle.resinfo.specs.Results.{Result}
-use Rattle.resinfo.specs.Table.{understood}
+use Rattle.resinfo_rules.specs.Results.{Result}
+use Rattle.resinfo_rules.specs.Table.{understood}
 use Rattle.body.specs.Body.{Reading, unreadable, malformed, newer, noResult, results, reading}
 use Rattle.body.specs.Report as report
 use Rattle.body.specs.Report.{idLine, noneLine, lines, ignoredOf, fitted}
@@ -27,7 +27,7 @@ use Rattle.compose.proofs.Heads.{none-written, results-written, Said, s
 use Rattle.compose.proofs.Lines.{Good}
 use Rattle.compose.proofs.Runs.{Runs}
 use Rattle.compose.proofs.Flat.{flat, flat-body, flat-lines, none-ignored, ignored-none, stated-understood, understood-stated, flat-good, Ran, ran-results, ran-none, Spoken, spokenNone, spokenResults, spoken, good-stated}
-use Rattle.compose.proofs.Written.{body-bytes}
+use Rattle.compose.proofs.WrittenBodies.{body-bytes}
 
 -- ==== the report of what is written
 

@@ -16,18 +16,18 @@ use Rattle.reading.specs.Locality.{Any, Ends, Starts, Follows, Shut}
 use Rattle.reading.proofs.Texts.{follows-weaker}
 use Rattle.reading.proofs.Readers.{many-more, choose-no, run-none}
 use Rattle.reading.proofs.Sequencing.{bind-none}
-use Rattle.lexis.specs.declared.Class.the-variants as class
-use Rattle.lexis.specs.Bytes.{inClass}
-use Rattle.lexis.specs.Pieces.{space, comment, item, token, quoted}
-use Rattle.lexis.specs.Words.{skip, gap, readValue, readKeyword, readWord}
-use Rattle.lexis.proofs.Locality.{space-none, token-local}
-use Rattle.lexis.proofs.Steadiness.{value-opens, opensValue}
-use Rattle.resinfo.specs.Results.{Property, Methodspec, Result, one, orOne, mark, propertyValue, methodVersion, methodspec, reason, property, result}
-use Rattle.resinfo.specs.Table.{listed, table, ptypes, tabled}
-use Rattle.resinfo.proofs.Opened as resinfo
-use Rattle.resinfo.proofs.Following.{Delimited, Closed, solid, delimited-ends, mark-other}
-use Rattle.resinfo.proofs.Values.{property-value-opens}
-use Rattle.resinfo.proofs.Results.{property-no-reason, closed-reason, closed-property}
+use Rattle.lexis_rules.specs.declared.Class.the-variants as class
+use Rattle.lexis_rules.specs.Bytes.{inClass}
+use Rattle.lexis_rules.specs.Pieces.{space, comment, item, token, quoted}
+use Rattle.lexis_rules.specs.Words.{skip, gap, readValue, readKeyword, readWord}
+use Rattle.lexis_rules.proofs.Locality.{space-none, token-local}
+use Rattle.lexis_rules.proofs.Steadiness.{value-opens, opensValue}
+use Rattle.resinfo_rules.specs.Results.{Property, Methodspec, Result, one, orOne, mark, propertyValue, methodVersion, methodspec, reason, property, result}
+use Rattle.resinfo_rules.specs.Table.{listed, table, ptypes, tabled}
+use Rattle.resinfo_rules.proofs.Opened as resinfo
+use Rattle.resinfo_rules.proofs.Following.{Delimited, Closed, solid, delimited-ends, mark-other}
+use Rattle.resinfo_rules.proofs.Values.{property-value-opens}
+use Rattle.resinfo_rules.proofs.Results.{property-no-reason, closed-reason, closed-property}
 use Rattle.compose.specs.Entries.{judged, reasoned, shown, whole, isText, isKeyword, allowed}
 use Rattle.compose.specs.Bodies.{bareOr, pvalue, piece}
 use Rattle.compose.proofs.Readback.{Reads, Each, Takes, bind-reads, none-reads, last-reads, weaker-reads, give-reads, byte-reads, skip-reads, skipping-reads, pass-reads, some-reads, absent-reads, joined, joined-front, several-reads}

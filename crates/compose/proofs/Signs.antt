@@ -10,10 +10,10 @@ use borrow.Author.Tests.{eqb-true, ne-eqb, leb-true}
 use Rattle.sequences.proofs.Booleans.{both, and-left, and-right}
 use Rattle.sequences.proofs.Tables.{tested-at}
 use Rattle.reading.specs.Texts.{within, oneOf}
-use Rattle.lexis.specs.Bytes.{inClass}
-use Rattle.resinfo.specs.Results.{inDomain, singleDots, domain}
-use Rattle.resinfo.proofs.Opened as resinfo
-use Rattle.resinfo.proofs.Values.{implied}
+use Rattle.lexis_rules.specs.Bytes.{inClass}
+use Rattle.resinfo_rules.specs.Results.{inDomain, singleDots, domain}
+use Rattle.resinfo_rules.proofs.Opened as resinfo
+use Rattle.resinfo_rules.proofs.Values.{implied}
 use Rattle.body.specs.Report.{hexDigit, plain, escape}
 use Rattle.compose.specs.Entries.{each, whole, localOf, domainOf}
 use Rattle.compose.proofs.Bounds.{domain-bound}

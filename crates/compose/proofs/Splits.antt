@@ -10,11 +10,11 @@ use borrow.Author.Tests.{ne-eqb, not-true, leb-true}
 use Rattle.sequences.proofs.Booleans.{and-left, and-right, true-not, or-none}
 use Rattle.reading.specs.Texts.{bytes, within}
 use Rattle.reading.proofs.Texts.{one-out}
-use Rattle.lexis.specs.declared.Class.the-variants as class
-use Rattle.lexis.specs.Bytes.{inClass}
-use Rattle.resinfo.specs.Results.{Kind, Token, Quoted, Mailbox, AtDomain, Property}
-use Rattle.resinfo.specs.Table.{listed, ptypes}
-use Rattle.resinfo.proofs.Opened as resinfo
+use Rattle.lexis_rules.specs.declared.Class.the-variants as class
+use Rattle.lexis_rules.specs.Bytes.{inClass}
+use Rattle.resinfo_rules.specs.Results.{Kind, Token, Quoted, Mailbox, AtDomain, Property}
+use Rattle.resinfo_rules.specs.Table.{listed, ptypes}
+use Rattle.resinfo_rules.proofs.Opened as resinfo
 use Rattle.body.specs.Report.{hexDigit, plain, escape, letterOf}
 use Rattle.compose.specs.Entries.{Entry, identified, unstated, judged, reasoned, shown, lineOf, each, isKeyword, stands, allowed}
 use Rattle.compose.specs.Promise.{glue, linesWithFeeds}

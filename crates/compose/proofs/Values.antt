@@ -17,14 +17,14 @@ use Rattle.reading.specs.Locality.{Any, Ends, Fits, Local}
 use Rattle.reading.proofs.Readers.{run-fits, run-more, passing-fits, passing-inv}
 use Rattle.reading.proofs.Local.{run-local, passing-local}
 use Rattle.reading.proofs.Sequencing.{taken-inv}
-use Rattle.lexis.specs.declared.Class.the-variants as class
-use Rattle.lexis.specs.Bytes.{inClass}
-use Rattle.lexis.specs.Pieces.{token}
-use Rattle.lexis.proofs.Locality.{token-local}
-use Rattle.resinfo.specs.Results.{Kind, Token, Quoted, Mailbox, AtDomain, Value, next, readQuoted, inLocalPart, inDomain, isLocalPart, isDomain, domain, addressed, address, quotedMailbox, quotedValue, tokenValue, atBehind, propertyValue}
-use Rattle.resinfo.proofs.Opened as resinfo
-use Rattle.resinfo.proofs.Following.{Delimited, delimited-ends}
-use Rattle.resinfo.proofs.Values.{implied, no-at, token-bound, token-no-at, token-no-quote, token-value-opens, quote-no-at}
+use Rattle.lexis_rules.specs.declared.Class.the-variants as class
+use Rattle.lexis_rules.specs.Bytes.{inClass}
+use Rattle.lexis_rules.specs.Pieces.{token}
+use Rattle.lexis_rules.proofs.Locality.{token-local}
+use Rattle.resinfo_rules.specs.Results.{Kind, Token, Quoted, Mailbox, AtDomain, Value, next, readQuoted, inLocalPart, inDomain, isLocalPart, isDomain, domain, addressed, address, quotedMailbox, quotedValue, tokenValue, atBehind, propertyValue}
+use Rattle.resinfo_rules.proofs.Opened as resinfo
+use Rattle.resinfo_rules.proofs.Following.{Delimited, delimited-ends}
+use Rattle.resinfo_rules.proofs.Values.{implied, no-at, token-bound, token-no-at, token-no-quote, token-value-opens, quote-no-at}
 use Rattle.compose.specs.Entries.{each, whole, quotable, isText, localOf, domainOf, stands}
 use Rattle.compose.specs.Bodies.{quote, bareOr, isBareLocal, pvalue}
 use Rattle.compose.specs.Promise.{Bytes}

@@ -5,9 +5,9 @@ use mathlib.Core.Bool.{Bool, true, false, _&&_}
 use mathlib.Core.List.{List, [], _∷_, _++_}
 use Rattle.reading.specs.Texts.{bytes, oneOf}
 use Rattle.reading.specs.Readers.{run}
-use Rattle.lexis.specs.Pieces.{token}
-use Rattle.authserv.specs.Identifier.{identifierToken}
-use Rattle.resinfo.specs.Results.{Token, Quoted, Mailbox, AtDomain, Value, inLocalPart, singleDots}
+use Rattle.lexis_rules.specs.Pieces.{token}
+use Rattle.authserv_rules.specs.Identifier.{identifierToken}
+use Rattle.resinfo_rules.specs.Results.{Token, Quoted, Mailbox, AtDomain, Value, inLocalPart, singleDots}
 use Rattle.compose.specs.Entries.{Entry, identified, unstated, judged, reasoned, shown, whole, localOf, domainOf}
 
 -- 02, ticket [1]: In a quoted string only the quote and the backslash are escaped

@@ -7,7 +7,7 @@ use lib.Dec.{leb}
 use lib.ListN.{length}
 use Rattle.reading.specs.Parsers.{nothing, got, Parser, _>>=_}
 use Rattle.reading.specs.Walks.{Walked, ended, before}
-use Rattle.lexis.specs.Limits.{byteLimit}
+use Rattle.lexis_rules.specs.Limits.{byteLimit}
 use Rattle.compose.specs.Entries.{Entry, identified, unstated, judged, reasoned, shown, entry}
 use Rattle.compose.specs.Bodies.{bodyOf}
 

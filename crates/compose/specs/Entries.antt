@@ -10,11 +10,11 @@ use lib.ListN.{length, drop}
 use Rattle.reading.specs.Texts.{bytes, within, oneOf, same}
 use Rattle.reading.specs.Readers.{Reader}
 use Rattle.reading.specs.Parsers.{nothing, got, Parser, _>>=_, _>>_, give, when, byte, text, either, several}
-use Rattle.lexis.specs.declared.Class.the-variants as class
-use Rattle.lexis.specs.Bytes.{inClass, lower}
-use Rattle.lexis.specs.Pieces.{token, keyword}
-use Rattle.resinfo.specs.Results.{Kind, Token, Quoted, Mailbox, AtDomain, Property, next, one, domain}
-use Rattle.resinfo.specs.Table.{listed, table, ptypes, tabled}
+use Rattle.lexis_rules.specs.declared.Class.the-variants as class
+use Rattle.lexis_rules.specs.Bytes.{inClass, lower}
+use Rattle.lexis_rules.specs.Pieces.{token, keyword}
+use Rattle.resinfo_rules.specs.Results.{Kind, Token, Quoted, Mailbox, AtDomain, Property, next, one, domain}
+use Rattle.resinfo_rules.specs.Table.{listed, table, ptypes, tabled}
 use Rattle.body.specs.Report.{plain, idLine, noneLine, methodLine, reasonLine, propertyLine}
 
 -- ==== what a line says

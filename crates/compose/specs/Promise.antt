@@ -9,7 +9,7 @@ use lib.Dec.{eqb, ltb}
 use lib.ListN.{length, take}
 use Rattle.body.specs.Body.{reading}
 use Rattle.body.specs.Report as report
-use Rattle.lexis.specs.Limits.{byteLimit}
+use Rattle.lexis_rules.specs.Limits.{byteLimit}
 use Rattle.compose.specs.Entries.{each}
 use Rattle.compose.specs.Bodies.{bodyOf}
 use Rattle.compose.specs.Compose.{entries}

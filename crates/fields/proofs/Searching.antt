@@ -8,15 +8,15 @@ use mathlib.Core.List.{List}
 use lib.Dec.{ltb}
 use lib.ListN.{length, drop}
 use Rattle.reading.specs.Walks.{Walked}
-use Rattle.lexis.specs.Limits.{byteLimit}
+use Rattle.lexis_rules.specs.Limits.{byteLimit}
 use Rattle.block.specs.declared.Next.the-variants as next
-use Rattle.block.specs.Fields.{Field}
+use Rattle.block_rules.specs.Fields.{Field}
 use Rattle.block.specs.Steps.{nextFrom}
 use Rattle.block.proofs.Steps.{Rest, fieldFrom, step-field, step-end, step-refused, part-bytes}
-use Rattle.fields.specs.declared.Step.{Step}
-use Rattle.fields.specs.declared.Step.the-variants as step
-use Rattle.fields.specs.Steps.{lastOf, firstFrom, stepFrom}
-use Rattle.fields.proofs.Firsts.{given-long, given-fields, first-none, first-here, first-later}
+use Rattle.fields_rules.specs.declared.Step.{Step}
+use Rattle.fields_rules.specs.declared.Step.the-variants as step
+use Rattle.fields_rules.specs.Steps.{lastOf, firstFrom, stepFrom}
+use Rattle.fields_rules.proofs.Firsts.{given-long, given-fields, first-none, first-here, first-later}
 
 -- what a walk whose first field starts at `at` gives from a place on
 abbrev pub fromWalk : ℕ → ℕ → Walked Field → Step

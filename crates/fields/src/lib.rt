@@ -11,25 +11,12 @@
 //
 // Cost: since a place may be made up, every step goes over the block from the front, up to the field that it gives; so does `passed`, which
 // has to find the field's end. A host that has a field goes on by `moved` to its end, which costs nothing by itself.
+use answer_numbers::Number;
 use block::Next;
 use block::Walk;
+use fields_rules::Step;
 ghost use mathlib.Core.Path.{_≡_};
-ghost use Rattle.fields.specs.Steps.{stepFrom, pastFrom};
-
-// What a step gives. A field runs from `start` up to `end`, its last CRLF included; its name from `start` up to `name_end`, its body from
-// `body_start` up to two before `end`.
-pub enum Step {
-    Field {
-        start: usize,
-        name_end: usize,
-        body_start: usize,
-        end: usize,
-    },
-    Last {
-        number: u8,
-        place: usize,
-    },
-}
+ghost use Rattle.fields_rules.specs.Steps.{stepFrom, pastFrom};
 
 // A step from any place of a block, or past it.
 pub fn field_from(block: &[u8], from: usize) -> Step
@@ -37,7 +24,7 @@ pub fn field_from(block: &[u8], from: usize) -> Step
 {
     if lexis::too_long(block) {
         return Step::Last {
-            number: 1,
+            number: Number::TOO_LONG,
             place: 0,
         };
     }
@@ -65,7 +52,7 @@ pub fn field_from(block: &[u8], from: usize) -> Step
             }
             Next::End => {
                 return Step::Last {
-                    number: 0,
+                    number: Number::DONE,
                     place: 0,
                 };
             }

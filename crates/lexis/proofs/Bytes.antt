@@ -1,17 +1,14 @@
 -- How the code keeps a class says which bytes are of it, by induction on the binary digits. Assumes nothing.
 use Prim.Native.Nat.{ℕ, zero, suc, _+_, _-_, _*_, _/_, _%_, _^_, _≤_, _<_, zero-le, suc-le-suc}
-use native.Mathlib.Nat.{add-zero, add-suc, suc-add, zero-add, not-suc-le-zero, le-of-suc-le-suc, pow-suc, mul-comm, div-one, div-div-eq-div-mul, add-mul-div-left, add-mul-mod-self-left, mod-eq-of-lt}
+use native.Mathlib.Nat.{add-zero, add-suc, suc-add, not-suc-le-zero, le-of-suc-le-suc, pow-suc, mul-comm, div-one, div-div-eq-div-mul, add-mul-div-left, add-mul-mod-self-left, mod-eq-of-lt}
 use native.Mathlib.Omega.{arith}
 use mathlib.Core.Path.{_≡_, refl, sym, ap, _∙_}
 use mathlib.Core.Bool.{Bool, true, false, cond}
 use lib.Dec.{ltb, eqb}
-use borrow.Author.Tests.{eqb-true, ltb-true, ltb-false, lt-ltb, le-ltb}
-use Rattle.sequences.proofs.Booleans.{both}
-use Rattle.reading.specs.Texts.{within, oneOf}
-use Rattle.lexis.specs.declared.Class.{Class}
-use Rattle.lexis.specs.declared.Class.the-variants.{Blank, Opening, Zero, Digit, Keyword, Token, Quoted, Comment, Escaped, Name, Visible, Delimiter, Tag}
+use borrow.Author.Tests.{ltb-true, ltb-false, lt-ltb, le-ltb}
+use Rattle.lexis_rules.specs.declared.Class.{Class}
 use Rattle.lexis.specs.declared.Rows.{Rows}
-use Rattle.lexis.specs.Bytes.{inClass, letter}
+use Rattle.lexis_rules.specs.Bytes.{inClass}
 use Rattle.lexis.specs.Internal.{bit, bitsOf, rowsOf, wordOf}
 
 -- the lowest binary digit, and the others
@@ -81,34 +78,3 @@ module _ (r : Rows) (b : ℕ) where
 
       pub word-fourth : 192 ≤ b → r .3 ≡ wordOf r b
       word-fourth h = rw (le-ltb b 64 l, le-ltb b 128 m, le-ltb b 192 h)
-
--- 0, which stands for the end, is in no class
-pub class-zero : (c : Class) → inClass c 0 ≡ false
-unfolding inClass letter within oneOf
-class-zero Blank = refl
-class-zero Opening = refl
-class-zero Zero = refl
-class-zero Digit = refl
-class-zero Keyword = refl
-class-zero Token = refl
-class-zero Quoted = refl
-class-zero Comment = refl
-class-zero Escaped = refl
-class-zero Name = refl
-class-zero Visible = refl
-class-zero Delimiter = refl
-class-zero Tag = refl
-
--- ==== the bytes with which a space can start
-
--- a byte that can start no space is none of the bytes that can
-pub not-opening : (x b : ℕ) → inClass Opening x ≡ true → inClass Opening b ≡ false → eqb b x ≡ false
-not-opening x b h e = go (eqb b x) refl
-  where
-    go : (t : Bool) → eqb b x ≡ t → eqb b x ≡ false
-    go true q = absurd (both (inClass Opening b) e (rw (eqb-true b x q) h))
-    go false q = q
-
-pub not-blank : (b : ℕ) → inClass Opening b ≡ false → inClass Blank b ≡ false
-unfolding inClass oneOf
-not-blank b e = rw (not-opening 32 b refl e, not-opening 9 b refl e)

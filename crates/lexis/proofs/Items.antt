@@ -5,10 +5,10 @@ use mathlib.Core.Bool.{Bool, true, false, _&&_}
 use mathlib.Core.List.{List}
 use lib.Dec.{eqb}
 use lib.ListN.{getD, drop}
-use Rattle.lexis.specs.declared.Class.{Class}
-use Rattle.lexis.specs.declared.Class.the-variants.{Blank, Escaped}
-use Rattle.lexis.specs.Bytes.{inClass}
-use Rattle.lexis.specs.Pieces.{pair, fold, escapes, item}
+use Rattle.lexis_rules.specs.declared.Class.{Class}
+use Rattle.lexis_rules.specs.declared.Class.the-variants.{Blank, Escaped}
+use Rattle.lexis_rules.specs.Bytes.{inClass}
+use Rattle.lexis_rules.specs.Pieces.{pair, fold, escapes, item}
 
 module _ (c : Class) (xs : List ℕ) (r : Bool) (e : r ≡ escapes c) where
   pub pair-never : r ≡ false → false ≡ (escapes c && pair xs)

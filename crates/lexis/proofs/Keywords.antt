@@ -10,9 +10,9 @@ use lib.Seq.{getD-drop, getD-take, length-take-le}
 use Rattle.sequences.proofs.Booleans.{true-not, false-not}
 use Rattle.reading.specs.Readers.{run}
 use Rattle.reading.proofs.Readers.{run-fits, passing-yes, passing-no}
-use Rattle.lexis.specs.declared.Class.the-variants.{Keyword}
-use Rattle.lexis.specs.Bytes.{inClass}
-use Rattle.lexis.specs.Pieces.{unhyphened, keyword}
+use Rattle.lexis_rules.specs.declared.Class.the-variants.{Keyword}
+use Rattle.lexis_rules.specs.Bytes.{inClass}
+use Rattle.lexis_rules.specs.Pieces.{unhyphened, keyword}
 
 abbrev word : List ℕ → ℕ
 word = run (inClass Keyword)

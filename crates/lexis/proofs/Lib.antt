@@ -1,12 +1,4 @@
 pub mod Bytes
 pub mod Items
-pub mod Pieces
-pub mod Texts
 pub mod Loops
-pub mod Numbers
 pub mod Keywords
-pub mod Trimmed
-pub mod Values
-pub mod Locality
-pub mod Steadiness
-pub mod Examples

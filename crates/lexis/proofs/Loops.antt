@@ -1,9 +1,8 @@
 -- The laws of items, comments and what they hold at a place of a slice, with premises as a need is handed them: the invariant of the
 -- loop, what a call ensures of its answer, and what a test says of that. Each is a law of `reading` at one reader. Assumes nothing.
-use Prim.Native.Char.{code}
-use Prim.Native.Nat.{ℕ, zero, suc, _+_, _-_, _≤_, _<_, _^_}
+use Prim.Native.Nat.{ℕ, _+_, _-_, _<_, _^_}
 use native.Mathlib.Omega.{arith}
-use mathlib.Core.Path.{_≡_, refl, sym, ap, _∙_}
+use mathlib.Core.Path.{_≡_, refl, sym, _∙_}
 use mathlib.Core.Bool.{Bool, true, false}
 use mathlib.Core.List.{List, _∷_}
 use lib.Dec.{eqb}
@@ -17,14 +16,14 @@ use Rattle.reading.specs.Readers.{run, many, choose}
 use Rattle.reading.specs.Places.{Reaches}
 use Rattle.reading.proofs.Readers.{choose-yes, choose-no, many-none}
 use Rattle.reading.proofs.Loops.{many-on, many-off, many-past-run, turn-fits, turn-less, opens-not, closes, closes-not, room-at}
-use Rattle.lexis.specs.declared.Class.{Class}
-use Rattle.lexis.specs.declared.Class.the-variants.{Blank, Opening, Comment}
+use Rattle.lexis_rules.specs.declared.Class.{Class}
+use Rattle.lexis_rules.specs.declared.Class.the-variants.{Blank, Opening, Comment}
 use Rattle.lexis.specs.declared.Cursor.{Cursor}
-use Rattle.lexis.specs.Limits.{freshAt}
-use Rattle.lexis.specs.Bytes.{inClass}
-use Rattle.lexis.specs.Pieces.{fold, item, comment, content, space}
-use Rattle.lexis.proofs.Bytes.{not-blank, not-opening}
-use Rattle.lexis.proofs.Pieces.{item-fits, comment-fits, part-fits, comment-none, comment-is}
+use Rattle.lexis.specs.Internal.{freshAt}
+use Rattle.lexis_rules.specs.Bytes.{inClass}
+use Rattle.lexis_rules.specs.Pieces.{item, comment, content, space}
+use Rattle.lexis_rules.proofs.Pieces.{item-fits, comment-fits, part-fits, comment-none, comment-is}
+use Rattle.lexis_rules.proofs.Locality.{part-shut}
 
 -- ==== items of a class
 
@@ -103,13 +102,6 @@ module _ (c : Class) (s : List ℕ) (i e : ℕ) (q : e ≡ i + run (inClass c) (
   past-item-less n z ne = omega (arith, room-at (item c) (item-fits c) s e)
 
 -- ==== space, and cursors
-
--- where the first byte starts none of them, neither an item of space nor a comment is there
-pub part-shut : (xs : List ℕ) → inClass Opening (getD xs 0 0) ≡ false → choose 40 (comment 16) (item Blank) xs ≡ 0
-unfolding item fold inClass oneOf
-part-shut xs e =
-    choose-no 40 (comment 16) (item Blank) xs (not-opening 40 (getD xs 0 0) refl e)
-    ∙ rw (not-blank (getD xs 0 0) e, not-opening 13 (getD xs 0 0) refl e)
 
 pub space-shut : (s : List ℕ) (at : ℕ) (r : Bool) → r ≡ inClass Opening (getD (drop at s) 0 0) → r ≡ false → at ≡ at + space (drop at s)
 space-shut s at r h t = omega (arith, many-none (choose 40 (comment 16) (item Blank)) (drop at s) (part-shut (drop at s) (sym h ∙ t)))

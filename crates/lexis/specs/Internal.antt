@@ -1,13 +1,12 @@
 -- What private functions of the code say of their answers. No public contract cites these. Assumes nothing: these are definitions.
 use Prim.Native.Nat.{ℕ, zero, suc, _+_, _*_}
-use mathlib.Core.Path.{_≡_}
 use mathlib.Core.Bool.{Bool, true, false, cond}
-use mathlib.Core.List.{List}
 use lib.Dec.{ltb}
-use lib.ListN.{drop}
-use Rattle.lexis.specs.declared.Class.{Class}
+use Rattle.lexis_rules.specs.declared.Class.{Class}
 use Rattle.lexis.specs.declared.Rows.{Rows}
-use Rattle.lexis.specs.Bytes.{inClass, alike}
+use Rattle.lexis_rules.specs.Bytes.{inClass}
+use Rattle.lexis.specs.declared.Cursor.{Cursor}
+use Rattle.lexis_rules.specs.Limits.{depthLimit}
 
 -- ==== how the code keeps a class: a binary digit for each byte
 
@@ -28,10 +27,6 @@ rowsOf c = (bitsOf (inClass c) 0 64, bitsOf (inClass c) 64 64, bitsOf (inClass c
 abbrev pub wordOf : Rows → ℕ → ℕ
 wordOf r b = cond (ltb b 64) (r .0) (cond (ltb b 128) (r .1) (cond (ltb b 192) (r .2) (r .3)))
 
--- ==== a comparison of several bytes at once
-
--- what comparing n bytes of two texts from a place on tells: where none differs the texts are as alike from there on as behind those
--- bytes, and where one does they are not
-pub record Compared (a b : List ℕ) (at n : ℕ) (differ : Bool) : Type 0 where
-  pub on : differ ≡ false → alike (drop (at + n) a) (drop (at + n) b) ≡ alike (drop at a) (drop at b)
-  pub off : differ ≡ true → alike (drop at a) (drop at b) ≡ false
+-- a fresh cursor: at a place, where all the comments that the limit allows may still open
+abbrev pub freshAt : ℕ → Cursor
+freshAt at = record { at = at; depth = depthLimit }

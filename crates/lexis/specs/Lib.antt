@@ -1,6 +1,1 @@
-pub mod Limits
-pub mod Bytes
-pub mod Pieces
-pub mod Words
-pub mod Answers
 pub mod Internal

@@ -2,19 +2,20 @@
 //
 // A reader is handed a slice and a place, any place, also past the end. It answers the place after the piece that starts there, and
 // the place itself where there is none. Nothing is refused here: what it means that a piece is missing is the caller's to say.
+use lexis_rules::Class;
+use lexis_rules::Digits;
+use lexis_rules::Value;
 ghost use mathlib.Core.Path.{_≡_};
 ghost use mathlib.Core.Bool.{_&&_};
 ghost use Prim.Native.Nat.{_+_, _-_};
 ghost use lib.Dec.{eqb, ltb};
 ghost use lib.ListN.{drop, getD, length};
 ghost use Rattle.reading.specs.Readers.{run, many};
-ghost use Rattle.lexis.specs.Limits.{byteLimit, depthLimit, freshAt};
-ghost use Rattle.lexis.specs.Bytes.{inClass};
-ghost use Rattle.lexis.specs.Pieces.{escapes, pair, fold, item, comment, content, space, bareSpace, token, quoted, keyword, digits, leading, isOne};
-ghost use Rattle.lexis.specs.Answers.{valueAt, digitsAt};
-ghost use Rattle.lexis.specs.Internal.{rowsOf, wordOf};
-
-pub mod text;
+ghost use Rattle.lexis_rules.specs.Limits.{byteLimit, depthLimit};
+ghost use Rattle.lexis.specs.Internal.{freshAt, rowsOf, wordOf};
+ghost use Rattle.lexis_rules.specs.Bytes.{inClass};
+ghost use Rattle.lexis_rules.specs.Pieces.{escapes, pair, fold, item, comment, content, space, bareSpace, token, quoted, keyword, digits, leading};
+ghost use Rattle.lexis_rules.specs.Answers.{valueAt, digitsAt};
 
 // A place of a slice, and how many comments may still open there, one inside the other.
 pub struct Cursor {
@@ -44,22 +45,6 @@ pub fn too_long(s: &[u8]) -> bool
     ensures { λ r. ⌜ r ≡ ltb byteLimit (length (now (s .entry))) ⌝ }
 {
     Cursor::BYTES < s.len()
-}
-
-pub enum Class {
-    Blank,
-    Opening,
-    Zero,
-    Digit,
-    Keyword,
-    Token,
-    Quoted,
-    Comment,
-    Escaped,
-    Name,
-    Visible,
-    Delimiter,
-    Tag,
 }
 
 // A class: a binary digit for each byte, the lowest first, 64 bytes to a word.
@@ -339,13 +324,6 @@ pub fn quoted_end(s: &[u8], at: usize) -> usize
     at
 }
 
-// A token or a quoted string, with the place after it.
-pub enum Value {
-    Token { start: usize, end: usize },
-    Quoted { start: usize, end: usize },
-    Nothing,
-}
-
 // The value at a place.
 pub fn value_at(s: &[u8], at: usize) -> Value
     ensures { λ r. ⌜ r ≡ valueAt (now (s .entry)) at ⌝ }
@@ -376,14 +354,6 @@ pub fn keyword_end(s: &[u8], at: usize) -> usize
         return at;
     }
     e
-}
-
-// A digit run: its first digit that counts, the place after it, and whether its number is 1. There is none where `end` is the place
-// asked for.
-pub struct Digits {
-    pub start: usize,
-    pub end: usize,
-    pub one: bool,
 }
 
 // The first digit that counts of the digit run from `at` up to `end`.

@@ -1,18 +1,18 @@
 -- A struct for hosts has what the library's answer has, field by field. Assumes nothing.
 use Prim.Native.Nat.{ℕ}
 use mathlib.Core.Path.{_≡_}
-use Rattle.strip.specs.declared.Stripped.{Stripped}
-use Rattle.strip.specs.Strip as strip
-use Rattle.strip.specs.Answers as stripping
+use Rattle.strip_rules.specs.declared.Stripped.{Stripped}
+use Rattle.strip_rules.specs.Strip as strip
+use Rattle.strip_rules.specs.Answers as stripping
 use Rattle.body.specs.Report as report
-use Rattle.report.specs.declared.Reported.{Reported}
-use Rattle.report.specs.Answers as reporting
+use Rattle.body.specs.declared.Reported.{Reported}
+use Rattle.body.specs.Answers as reporting
 use Rattle.compose.specs.Compose as compose
-use Rattle.writing.specs.declared.Written.{Written}
-use Rattle.writing.specs.Answers as writing
-use Rattle.arc.specs.declared.Judged.{Judged}
-use Rattle.arc.specs.Chain as arc
-use Rattle.arc.specs.Answers as judging
+use Rattle.compose.specs.declared.Written.{Written}
+use Rattle.compose.specs.Answers as writing
+use Rattle.arc_rules.specs.declared.Judged.{Judged}
+use Rattle.arc_rules.specs.Chain as arc
+use Rattle.arc_rules.specs.Answers as judging
 use Rattle.orbendash.specs.declared.StripFace.{StripFace}
 use Rattle.orbendash.specs.declared.ReportFace.{ReportFace}
 use Rattle.orbendash.specs.declared.WriteFace.{WriteFace}

@@ -3,12 +3,12 @@ use Prim.Native.Nat.{ℕ}
 use mathlib.Core.Bool.{cond}
 use lib.Dec.{eqb}
 use lib.ListN.{length}
-use Rattle.strip.specs.Strip as strip
+use Rattle.strip_rules.specs.Strip as strip
 use Rattle.body.specs.Report as report
-use Rattle.arc.specs.Chain as arc
+use Rattle.arc_rules.specs.Chain as arc
 use Rattle.compose.specs.Compose as compose
-use Rattle.fields.specs.declared.Step.{Step}
-use Rattle.fields.specs.declared.Step.the-variants.{Field, Last}
+use Rattle.fields_rules.specs.declared.Step.{Step}
+use Rattle.fields_rules.specs.declared.Step.the-variants.{Field, Last}
 use Rattle.orbendash.specs.declared.StripFace.{StripFace}
 use Rattle.orbendash.specs.declared.ReportFace.{ReportFace}
 use Rattle.orbendash.specs.declared.WriteFace.{WriteFace}

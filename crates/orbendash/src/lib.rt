@@ -1,19 +1,21 @@
 // The face for hosts: functions for C and for Rust over the library's calls, with the same answers.
 //
 // A slice is a pointer and a length. A struct is returned by value. On a refusal all but number and place are 0.
-use fields::Step;
+use answer_numbers::Number;
+use fields_rules::Step;
 ghost use mathlib.Core.Path.{_≡_};
 ghost use lib.ListN.{length};
-ghost use Rattle.strip.specs.Strip.{strip};
-ghost use Rattle.strip.specs.Answers as stripping;
+ghost use Rattle.strip_rules.specs.Strip.{strip};
+ghost use Rattle.strip_rules.specs.Answers as stripping;
 ghost use Rattle.body.specs.Report.{report};
-ghost use Rattle.report.specs.Answers as reporting;
-ghost use Rattle.arc.specs.Chain.{judge};
-ghost use Rattle.fields.specs.Steps.{stepFrom};
+ghost use Rattle.body.specs.Answers as reporting;
+ghost use Rattle.arc_rules.specs.Chain.{judge};
+ghost use Rattle.fields_rules.specs.Steps.{stepFrom};
 ghost use Rattle.compose.specs.Compose.{compose};
-ghost use Rattle.writing.specs.Answers as writing;
+ghost use Rattle.compose.specs.Answers as writing;
 ghost use Rattle.orbendash.specs.Faces.{stripFace, reportFace, writeFace, hasOldestPass, judgeFace, nextFace};
 
+// What `orbendash_strip` returns.
 #[repr(C)]
 pub struct StripFace {
     pub number: u8,
@@ -23,6 +25,7 @@ pub struct StripFace {
     pub fields: usize,
 }
 
+// What `orbendash_report` returns.
 #[repr(C)]
 pub struct ReportFace {
     pub number: u8,
@@ -31,6 +34,7 @@ pub struct ReportFace {
     pub ignored: usize,
 }
 
+// What `orbendash_write` returns.
 #[repr(C)]
 pub struct WriteFace {
     pub number: u8,
@@ -150,7 +154,7 @@ pub extern "C" fn orbendash_next_field(s: &[u8], place: usize) -> NextFace
             body_start,
             end,
         } => NextFace {
-            number: 0,
+            number: Number::DONE,
             found: 1,
             place: 0,
             start,

@@ -1,6 +1,4 @@
-pub mod Clips
-pub mod Texts
+pub mod Answers
 pub mod Lines
 pub mod Methods
-pub mod Valuing
 pub mod Properties

@@ -1,5 +1,5 @@
 -- `id`, `r` and `none` lines: one law for each way out of the code. Assumes nothing.
-use Prim.Native.Nat.{ℕ, _+_, _-_, _^_, _≤_, _<_}
+use Prim.Native.Nat.{ℕ, _+_, _^_, _≤_, _<_}
 use native.Mathlib.Omega.{arith}
 use mathlib.Core.Path.{_≡_, refl, sym, ap, _∙_}
 use mathlib.Core.Bool.{Bool, true, false}
@@ -7,34 +7,23 @@ use mathlib.Core.List.{List, [], _∷_}
 use lib.ListN.{length, drop}
 use mir.Syntax.{w64}
 use mir.Val as machine
+use Rattle.sequences.specs.Stored.{Clipped}
+use Rattle.sequences.proofs.Clips.{clipped-then}
 use Rattle.reading.specs.Texts.{bytes}
 use Rattle.reading.specs.Readers.{run}
 use Rattle.reading.specs.Parsers.{nothing, got, Parser, _>>_}
 use Rattle.reading.specs.Places.{from}
 use Rattle.reading.proofs.Places.{goes-on, stops, gives}
-use Rattle.authserv.specs.Identifier.{identifierToken}
+use Rattle.authserv_rules.specs.Identifier.{identifierToken}
 use Rattle.compose.specs.Entries.{Entry, identified, unstated, reasoned, whole, literal, idEntry, noneEntry, reasonEntry}
-use Rattle.compose.specs.Bodies.{quote, bareOr, piece}
-use Rattle.pieces.specs.declared.Piece.{Piece}
-use Rattle.columns.specs.declared.texts.Test.the-variants.{Token, Identifier}
-use Rattle.columns.specs.declared.texts.Tail as tail
+use Rattle.compose.specs.Bodies.{bareOr, piece}
+use Rattle.columns.specs.declared.coded.Test.the-variants.{Token, Identifier}
+use Rattle.columns.specs.declared.coded.Tail as tail
 use Rattle.columns.specs.Internal.{textOf, inTest, spells, Tail, tailAt, TailEnd, ends, endless}
-use Rattle.pieces.specs.Internal.{cap, Clipped, guardedIf, PiecePut, stood, missing}
-use Rattle.pieces.proofs.Clips.{pieceIs, clipped-then, clipped-long}
+use Rattle.pieces.specs.Internal.{PiecePut, stood, missing}
+use Rattle.pieces.proofs.Answers.{pieceIs}
 use Rattle.columns.proofs.Literals.{solid, literal-from, literal-not, literal-there}
 use Rattle.columns.proofs.Tails.{token-test, tail-ends}
-
--- ==== texts
-
-module _ (t : List ℕ) (bare : Bool) (to : ℕ) (o₀ : List ℕ) where
-  pub value-bare : bare ≡ true → (o₁ : List ℕ) (n : ℕ) → Clipped o₀ to (guardedIf false t) o₁ n → Clipped o₀ to (bareOr bare t) o₁ n
-  unfolding bareOr guardedIf
-  value-bare e o₁ n w = rw e w
-
-  pub value-quoted : bare ≡ false → length o₀ ≤ cap → (o₁ : List ℕ) (n : ℕ) → Clipped o₀ to (34 ∷ []) o₁ n → (o₂ : List ℕ) (m : ℕ) → Clipped o₁ n (guardedIf true t) o₂ m
-      → (o₃ : List ℕ) (k : ℕ) → Clipped o₂ m (34 ∷ []) o₃ k → Clipped o₀ to (bareOr bare t) o₃ k
-  unfolding bareOr guardedIf quote
-  value-quoted e h o₁ n u o₂ m v o₃ k w = rw e (clipped-then h u (clipped-then (omega (arith, clipped-long u)) v w))
 
 -- ==== `id`, `r` and `none` lines
 
@@ -93,13 +82,13 @@ module _ (s : List ℕ) (at : ℕ) (r : Bool) (p : r ≡ spells (105 ∷ 100 ∷
       unfolding idEntry Tail
       id-untailed old to z = headed-untailed 105 (100 ∷ 9 ∷ []) s at identified refl r p y (at + 3) refl (l .end) t old to z
 
-      pub id-put : (l .end ≡ at + 3 → ⊥) → (o₀ : List ℕ) (to : ℕ) → length o₀ ≤ cap → (o₁ : List ℕ) (n : ℕ) → Clipped o₀ to (32 ∷ []) o₁ n
+      pub id-put : (l .end ≡ at + 3 → ⊥) → (o₀ : List ℕ) (to : ℕ) → length o₀ < 2 ^ 64 → (o₁ : List ℕ) (n : ℕ) → Clipped o₀ to (32 ∷ []) o₁ n
           → (o₂ : List ℕ) (m : ℕ) → Clipped o₁ n (bareOr (l .bare) (textOf (drop (at + 3) s))) o₂ m
           → PiecePut idEntry s at o₀ to o₂ (record { end = l .end; next = m })
       unfolding idEntry Tail piece
       id-put ne o₀ to h o₁ n u o₂ m v =
           headed-put 105 (100 ∷ 9 ∷ []) s at identified refl r p y (at + 3) refl (l .end) t ne o₀ o₂ to m
-          (rw (← identifier-test (textOf (drop (at + 3) s)), ← q) (clipped-then h u v))
+          (rw (← identifier-test (textOf (drop (at + 3) s)), ← q) (clipped-then (omega (arith, h)) u v))
 
 -- `r`
 module _ (s : List ℕ) (at : ℕ) (r : Bool) (p : r ≡ spells (114 ∷ 9 ∷ []) (drop at s)) where
@@ -122,13 +111,13 @@ module _ (s : List ℕ) (at : ℕ) (r : Bool) (p : r ≡ spells (114 ∷ 9 ∷ [
       unfolding reasonEntry Tail
       reason-untailed old to z = headed-untailed 114 (9 ∷ []) s at reasoned refl r p y (at + 2) refl (l .end) tail-is old to z
 
-      pub reason-put : (l .end ≡ at + 2 → ⊥) → (o₀ : List ℕ) (to : ℕ) → length o₀ ≤ cap → (o₁ : List ℕ) (n : ℕ) → Clipped o₀ to (bytes " reason=") o₁ n
+      pub reason-put : (l .end ≡ at + 2 → ⊥) → (o₀ : List ℕ) (to : ℕ) → length o₀ < 2 ^ 64 → (o₁ : List ℕ) (n : ℕ) → Clipped o₀ to (bytes " reason=") o₁ n
           → (o₂ : List ℕ) (m : ℕ) → Clipped o₁ n (bareOr (l .bare) (textOf (drop (at + 2) s))) o₂ m
           → PiecePut reasonEntry s at o₀ to o₂ (record { end = l .end; next = m })
       unfolding reasonEntry Tail piece
       reason-put ne o₀ to h o₁ n u o₂ m v =
           headed-put 114 (9 ∷ []) s at reasoned refl r p y (at + 2) refl (l .end) tail-is ne o₀ o₂ to m
-          (rw (← token-test (textOf (drop (at + 2) s)), ← bare-is) (clipped-then h u v))
+          (rw (← token-test (textOf (drop (at + 2) s)), ← bare-is) (clipped-then (omega (arith, h)) u v))
 
 -- `none`
 module _ (s : List ℕ) (at : ℕ) (r : Bool) (p : r ≡ spells (bytes "none\n") (drop at s)) where

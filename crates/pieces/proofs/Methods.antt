@@ -1,5 +1,5 @@
 -- `m` lines: one law for each way out of the code. Assumes nothing.
-use Prim.Native.Nat.{ℕ, _+_, _-_, _^_, _≤_, _<_}
+use Prim.Native.Nat.{ℕ, _+_, _^_, _≤_, _<_}
 use native.Mathlib.Omega.{arith}
 use mathlib.Core.Path.{_≡_, refl, sym, _∙_}
 use mathlib.Core.Bool.{Bool, true, false}
@@ -7,31 +7,32 @@ use mathlib.Core.List.{List, [], _∷_, _++_}
 use lib.ListN.{length, drop}
 use mir.Syntax.{w64}
 use mir.Val as machine
+use Rattle.sequences.specs.Stored.{Clipped}
+use Rattle.sequences.proofs.Clips.{clipped-then, clipped-long}
 use Rattle.reading.specs.Texts.{bytes}
 use Rattle.reading.specs.Parsers.{Got, nothing, got, Parser, _>>_, give, when}
 use Rattle.reading.specs.Places.{from}
 use Rattle.reading.proofs.Places.{goes-on, stops, gives, passes, fails}
-use Rattle.resinfo.specs.Table.{table, tabled}
-use Rattle.resinfo.specs.Values.{span}
+use Rattle.resinfo_rules.specs.Table.{table, tabled}
+use Rattle.values.specs.Values.{span}
 use Rattle.compose.specs.Entries.{Entry, judged, literal, methodEntry}
 use Rattle.compose.specs.Bodies.{piece}
-use Rattle.pieces.specs.declared.Piece.{Piece}
 use Rattle.columns.specs.Internal.{spells, Column, columnSize, ColumnEnd, column, unclosed}
-use Rattle.pieces.specs.Internal.{cap, Clipped, PiecePut, stood, missing}
-use Rattle.pieces.proofs.Clips.{pieceIs, clipped-then, clipped-long}
+use Rattle.pieces.specs.Internal.{PiecePut, stood, missing}
+use Rattle.pieces.proofs.Answers.{pieceIs}
 use Rattle.columns.proofs.Literals.{literal-from, literal-not, literal-there}
 use Rattle.columns.proofs.Keywords.{column-ends}
 
 -- ==== writing
 
-pub pair-put : (a b : List ℕ) (mark to : ℕ) (o₀ : List ℕ) → length o₀ ≤ cap → (o₁ : List ℕ) (n : ℕ) → Clipped o₀ to a o₁ n → (o₂ : List ℕ) (m : ℕ) → Clipped o₁ n (mark ∷ []) o₂ m
+pub pair-put : (a b : List ℕ) (mark to : ℕ) (o₀ : List ℕ) → length o₀ < 2 ^ 64 → (o₁ : List ℕ) (n : ℕ) → Clipped o₀ to a o₁ n → (o₂ : List ℕ) (m : ℕ) → Clipped o₁ n (mark ∷ []) o₂ m
     → (o₃ : List ℕ) (k : ℕ) → Clipped o₂ m b o₃ k → Clipped o₀ to (a ++ (mark ∷ b)) o₃ k
-pair-put a b mark to o₀ h o₁ n u o₂ m v o₃ k w = clipped-then h u (clipped-then (omega (arith, clipped-long u)) v w)
+pair-put a b mark to o₀ h o₁ n u o₂ m v o₃ k w = clipped-then (omega (arith, h)) u (clipped-then (omega (arith, h, clipped-long u)) v w)
 
-pub known-put : (m o : List ℕ) (to : ℕ) (o₀ : List ℕ) → length o₀ ≤ cap → (o₁ : List ℕ) (n : ℕ) → Clipped o₀ to (bytes "; ") o₁ n → (o₂ : List ℕ) (k : ℕ) → Clipped o₁ n (m ++ (61 ∷ o)) o₂ k
+pub known-put : (m o : List ℕ) (to : ℕ) (o₀ : List ℕ) → length o₀ < 2 ^ 64 → (o₁ : List ℕ) (n : ℕ) → Clipped o₀ to (bytes "; ") o₁ n → (o₂ : List ℕ) (k : ℕ) → Clipped o₁ n (m ++ (61 ∷ o)) o₂ k
     → Clipped o₀ to (piece (judged m o)) o₂ k
 unfolding piece
-known-put m o to o₀ h o₁ n u o₂ k v = clipped-then h u v
+known-put m o to o₀ h o₁ n u o₂ k v = clipped-then (omega (arith, h)) u v
 
 -- ==== `m`
 
@@ -70,9 +71,6 @@ module _ (s : List ℕ) (at : ℕ) (r : Bool) (p : r ≡ spells (109 ∷ 9 ∷ [
             go (column g l b) = (l, b)
             go (unclosed g l) = absurd (ne l)
 
-        pub method-before : at + 2 ≤ e
-        method-before = omega (arith, first-inside)
-
         pub method-inside : e ≤ length s
         method-inside = omega (arith, first-inside)
 
@@ -106,9 +104,6 @@ module _ (s : List ℕ) (at : ℕ) (r : Bool) (p : r ≡ spells (109 ∷ 9 ∷ [
                 go : ColumnEnd s (e + 1) 10 f → (e + 1 < f) × (f < length s)
                 go (column g l b) = (l, b)
                 go (unclosed g l) = absurd (nf l)
-
-            pub method-before-second : e + 1 ≤ f
-            method-before-second = omega (arith, second-inside)
 
             pub method-inside-second : f ≤ length s
             method-inside-second = omega (arith, second-inside)

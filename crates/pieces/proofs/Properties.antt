@@ -3,26 +3,43 @@ use Prim.Native.Nat.{ℕ, _+_, _-_, _^_, _≤_, _<_}
 use native.Mathlib.Omega.{arith}
 use mathlib.Core.Path.{_≡_, refl, sym, ap, _∙_, subst}
 use mathlib.Core.Bool.{Bool, true, false}
-use mathlib.Core.List.{List, [], _∷_}
-use lib.Dec.{leb}
-use borrow.Author.Tests.{le-leb, lt-leb}
+use mathlib.Core.List.{List, [], _∷_, _++_, append-assoc}
 use lib.ListN.{length, drop, getD}
 use mir.Syntax.{w64}
 use mir.Val as machine
-use Rattle.reading.specs.Parsers.{Got, nothing, got, Parser, after, _>>_, either}
-use Rattle.reading.proofs.Sequencing.{either-first, either-second}
+use Rattle.sequences.specs.Stored.{Clipped}
+use Rattle.sequences.proofs.Clips.{clipped-then, clipped-long}
+use Rattle.reading.specs.Parsers.{Got, nothing, got, Parser, _>>_}
 use Rattle.reading.specs.Places.{from}
-use Rattle.reading.proofs.Places.{took, none-at, at-got, goes-on, stops}
-use Rattle.resinfo.specs.Values.{span}
-use Rattle.compose.specs.Entries.{Entry, shown, stands, kindOf, literal, idEntry, noneEntry, methodEntry, reasonEntry, propertyEntry, entry}
+use Rattle.reading.proofs.Places.{goes-on, stops}
+use Rattle.values.specs.Values.{span}
+use Rattle.compose.specs.Entries.{Entry, shown, stands, kindOf, literal, propertyEntry}
 use Rattle.compose.specs.Bodies.{piece}
 use Rattle.pieces.specs.declared.Piece.{Piece}
 use Rattle.columns.specs.Internal.{textOf, spells, Column, columnSize, ColumnEnd, column, unclosed, made, Shown, IsCoded, shownAt, ShownIs, shownIs, unshown, endOr}
-use Rattle.pieces.specs.Internal.{cap, Clipped, PiecePut, stood, missing, entryAt, pieceAt, bytesAt}
-use Rattle.pieces.proofs.Clips.{pieceIs}
+use Rattle.quoting.specs.Values.{writtenValue}
+use Rattle.quoting.proofs.Values.{written-is}
+use Rattle.pieces.specs.Internal.{writtenShown, PiecePut, stood, missing}
+use Rattle.pieces.proofs.Answers.{pieceIs}
 use Rattle.columns.proofs.Literals.{literal-from, literal-not, literal-there}
 use Rattle.columns.proofs.Keywords.{column-ends}
 use Rattle.columns.proofs.Allowed.{shown-is}
+
+-- ==== written
+
+pub shown-put : (t p : List ℕ) (k : ℕ) (v : List ℕ) (o₀ : List ℕ) (to : ℕ) → length o₀ < 2 ^ 64 → (o₁ : List ℕ) (a : ℕ) → Clipped o₀ to (32 ∷ []) o₁ a
+    → (o₂ : List ℕ) (b : ℕ) → Clipped o₁ a (t ++ (46 ∷ p)) o₂ b → (o₃ : List ℕ) (c : ℕ) → Clipped o₂ b (61 ∷ []) o₃ c
+    → (o₄ : List ℕ) (d : ℕ) → Clipped o₃ c (writtenValue k v) o₄ d → Clipped o₀ to (writtenShown t p k v) o₄ d
+unfolding writtenShown
+shown-put t p k v o₀ to h o₁ a u o₂ b w o₃ c x o₄ d y =
+    let g : length o₁ < 2 ^ 64 = omega (arith, h, clipped-long u) in
+    let e : (t ++ (46 ∷ p)) ++ (61 ∷ writtenValue k v) ≡ t ++ (46 ∷ (p ++ (61 ∷ writtenValue k v))) = append-assoc t (46 ∷ p) (61 ∷ writtenValue k v) in
+    rw e at (clipped-then (omega (arith, h)) u (clipped-then (omega (arith, g)) w (clipped-then (omega (arith, g, clipped-long w)) x y)))
+
+-- what is written of the columns is the property's piece
+shown-piece : (t p : List ℕ) (k : ℕ) (v : List ℕ) → IsCoded v → stands (kindOf k) (textOf v) ≡ true → writtenShown t p k v ≡ piece (shown (made t p (kindOf k) (textOf v)))
+unfolding writtenShown piece
+shown-piece t p k v c y = rw (written-is k v c y)
 
 -- ==== behind ptype and property
 
@@ -57,21 +74,15 @@ module _ (t p s : List ℕ) (at g : ℕ) (G : g ≡ endOr at (from (Shown t p) s
     pub valued-inside : g - 1 ≤ length s
     valued-inside = omega (arith, valued-in)
 
-    module _ (k : ℕ) (K : k ≡ getD (drop at s) 0 0) where
-      pub valued-stands : IsCoded (span s (at + 2) (g - 1)) × (stands (kindOf k) (textOf (span s (at + 2) (g - 1))) ≡ true)
-      valued-stands = go E
-        where
-          go : ShownIs t p s at g → IsCoded (span s (at + 2) (g - 1)) × (stands (kindOf k) (textOf (span s (at + 2) (g - 1))) ≡ true)
-          go (shownIs f c y l b) = (c, rw K y)
-          go (unshown f l) = absurd (ne l)
-
-      pub valued-put : (old new : List ℕ) (to n : ℕ) → Clipped old to (piece (shown (made t p (kindOf k) (textOf (span s (at + 2) (g - 1)))))) new n
-          → PiecePut (Shown t p) s at old to new (record { end = g; next = n })
-      valued-put old new to n w = go E
-        where
-          go : ShownIs t p s at g → PiecePut (Shown t p) s at old to new (pieceIs g n)
-          go (shownIs f c y l b) = stood (shown (shownAt t p s at g)) f (omega arith) b (rw (← K) w)
-          go (unshown f l) = absurd (ne l)
+    pub valued-put : (k : ℕ) → k ≡ getD (drop at s) 0 0 → (old new : List ℕ) (to n : ℕ) → Clipped old to (writtenShown t p k (span s (at + 2) (g - 1))) new n
+        → PiecePut (Shown t p) s at old to new (record { end = g; next = n })
+    valued-put k K old new to n w = go E
+      where
+        go : ShownIs t p s at g → PiecePut (Shown t p) s at old to new (pieceIs g n)
+        go (shownIs f c y l b) =
+            let e : writtenShown t p k (span s (at + 2) (g - 1)) ≡ piece (shown (shownAt t p s at g)) = rw K (shown-piece t p (getD (drop at s) 0 0) (span s (at + 2) (g - 1)) c y) in
+            stood (shown (shownAt t p s at g)) f (omega arith) b (subst (λ (l : List ℕ). Clipped old to l new n) e w)
+        go (unshown f l) = absurd (ne l)
 
 -- ==== `p`
 
@@ -111,9 +122,6 @@ module _ (s : List ℕ) (at : ℕ) (r : Bool) (q : r ≡ spells (112 ∷ 9 ∷ [
             go (column g l b) = (l, b)
             go (unclosed g l) = absurd (ne l)
 
-        pub property-before : at + 2 ≤ e
-        property-before = omega (arith, first-inside)
-
         pub property-inside : e ≤ length s
         property-inside = omega (arith, first-inside)
 
@@ -146,9 +154,6 @@ module _ (s : List ℕ) (at : ℕ) (r : Bool) (q : r ≡ spells (112 ∷ 9 ∷ [
                 go (column g l b) = (l, b)
                 go (unclosed g l) = absurd (nf l)
 
-            pub property-before-second : e + 1 ≤ f
-            property-before-second = omega (arith, second-inside)
-
             pub property-inside-second : f ≤ length s
             property-inside-second = omega (arith, second-inside)
 
@@ -176,62 +181,3 @@ module _ (s : List ℕ) (at : ℕ) (r : Bool) (q : r ≡ spells (112 ∷ 9 ∷ [
                   go : PiecePut (Shown (span s (at + 2) e) (span s (e + 1) f)) s (f + 1) old to new w → PiecePut propertyEntry s at old to new w
                   go (stood x a b c d) = stood x (behind-second (got x (w .end)) a) (omega (arith, first-inside, second-inside)) c d
                   go (missing a b c) = absurd (nz (ap (λ (x : Piece). x .end) b))
-
--- ==== one line or another
-
-module _ (p q : Parser Entry) (s : List ℕ) (at : ℕ) where
-  either-from : nothing ≡ from p s at → (x : Got Entry) → x ≡ from q s at → x ≡ from (either p q) s at
-  unfolding from after
-  either-from n x X = X ∙ ap (after at) (sym (either-second p q (drop at s) (none-at p s at n)))
-
-  module _ (o₀ o₁ : List ℕ) (to : ℕ) (r : Piece) (P : PiecePut p s at o₀ to o₁ r) where
-    pub either-took : (r .end ≡ at → ⊥) → PiecePut (either p q) s at o₀ to o₁ r
-    either-took ne = go P
-      where
-        go : PiecePut p s at o₀ to o₁ r → PiecePut (either p q) s at o₀ to o₁ r
-        go (stood x a b c d) =
-            let t = took p s at x (r .end) a in
-            stood x (at-got (either p q) s at x (t .size) (r .end) (either-first p q (drop at s) x (t .size) (t .is)) (t .sum)) b c d
-        go (missing a b c) = absurd (ne (ap (λ (x : Piece). x .end) b))
-
-    pub either-else : r .end ≡ at → (o₂ : List ℕ) (r′ : Piece) → PiecePut q s at o₁ to o₂ r′ → PiecePut (either p q) s at o₀ to o₂ r′
-    either-else z o₂ r′ Q = go P Q
-      where
-        go : PiecePut p s at o₀ to o₁ r → PiecePut q s at o₁ to o₂ r′ → PiecePut (either p q) s at o₀ to o₂ r′
-        go (stood x a b c d) Q = absurd (omega arith)
-        go (missing a b c) (stood x e f g h) = stood x (either-from a (got x (r′ .end)) e) f g (subst (λ (l : List ℕ). Clipped l to (piece x) o₂ (r′ .next)) c h)
-        go (missing a b c) (missing e f g) = missing (either-from a nothing e) f (g ∙ c)
-
--- ==== the answer
-
-abbrev AnyEntry : Parser Entry
-AnyEntry = either idEntry (either noneEntry (either methodEntry (either reasonEntry propertyEntry)))
-
--- an answer, and what it leaves
-abbrev pub Answered : List ℕ → ℕ → List ℕ → ℕ → List ℕ → Piece → Type 0
-Answered s at old to new r = (r ≡ pieceAt at to (entryAt (length old) to s at)) × (new ≡ bytesAt old to (entryAt (length old) to s at))
-
-module _ (s : List ℕ) (at : ℕ) (old : List ℕ) (to : ℕ) where
-  pub line-roomy : cap < length old → Answered s at old to old (record { end = at; next = to })
-  unfolding entryAt
-  line-roomy h = let e : leb (length old) cap ≡ false = lt-leb (length old) cap h in (rw (entryAt, e), rw (entryAt, e))
-
-  module _ (h : length old ≤ cap) where
-    pub line-past : cap < to → Answered s at old to old (record { end = at; next = to })
-    unfolding entryAt
-    line-past l =
-        let e : leb (length old) cap ≡ true = le-leb (length old) cap h in
-        let f : leb to cap ≡ false = lt-leb to cap l in
-        (rw (entryAt, e, f), rw (entryAt, e, f))
-
-    pub line-put : to ≤ cap → (new : List ℕ) (r : Piece) → PiecePut AnyEntry s at old to new r → Answered s at old to new r
-    line-put l new r P = go P
-      where
-        e : entryAt (length old) to s at ≡ from AnyEntry s at
-        e = unfold entryAt entry in rw (entryAt, le-leb (length old) cap h, le-leb to cap l)
-
-        go : PiecePut AnyEntry s at old to new r → Answered s at old to new r
-        go (stood x a b c d) =
-            let f : entryAt (length old) to s at ≡ got x (r .end) = e ∙ sym a in
-            (rw f (ap (λ (n : ℕ). pieceIs (r .end) n) (d .place)), rw f (d .bytes))
-        go (missing a b c) = let f : entryAt (length old) to s at ≡ nothing = e ∙ sym a in (rw f b, rw f c)

@@ -14,8 +14,7 @@ use Rattle.sequences.proofs.Booleans.{no-true}
 use Rattle.punycode.specs.declared.points.Points.{Points}
 use Rattle.punycode.specs.declared.points.Points.the-variants.{Read, Failed, Long}
 use Rattle.punycode_rules.specs.Punycode.{start, beforeLast, basic, consumed}
-use Rattle.punycode_rules.specs.Labels.{decoded}
-use Rattle.punycode_rules.specs.Labels.{spellingLimit}
+use Rattle.punycode_rules.specs.Labels.{decoded, spellingLimit}
 use Rattle.punycode.specs.Internal.{Opened, Ends, Copied, Tells}
 use Rattle.punycode_rules.proofs.Decoding.{counted, kept-some}
 use Rattle.punycode_rules.proofs.Basics.{before-inside, basic-scalars, decoded-yes, decoded-no}

@@ -16,8 +16,7 @@ use Rattle.reading.specs.Readers.{run}
 use Rattle.punycode.specs.declared.points.Points.{Points}
 use Rattle.punycode.specs.declared.points.Points.the-variants.{Read, Failed, Long}
 use Rattle.punycode_rules.specs.Unicode.{scalars, utf8s}
-use Rattle.punycode_rules.specs.Labels.{decoded, prefixed, spelled, spelling}
-use Rattle.punycode_rules.specs.Labels.{spellingLimit, inLabel}
+use Rattle.punycode_rules.specs.Labels.{decoded, prefixed, spelled, spelling, spellingLimit, inLabel}
 use Rattle.punycode.specs.Internal.{Spells, Spelt, Tells}
 use Rattle.punycode_rules.proofs.Encoding.{utf8s-bounds}
 use Rattle.punycode_rules.proofs.Spelling.{spelled-plain, spelled-failed, spelled-some, scalars-of, end-low, here-last, here-more}

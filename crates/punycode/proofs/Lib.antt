@@ -5,5 +5,4 @@ pub mod Copying
 pub mod Reading
 pub mod Writing
 pub mod Labelling
-pub mod Doubles
 pub mod Answering

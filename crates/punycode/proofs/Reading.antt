@@ -12,8 +12,7 @@ use Rattle.punycode.specs.declared.numbers.Numbers.{Numbers}
 use Rattle.punycode.specs.declared.points.Points.the-variants.{Read, Failed, Long}
 use Rattle.punycode_rules.specs.Punycode.{start, insert, last, digitOf, threshold, numbers}
 use Rattle.punycode_rules.specs.Unicode.{scalar, scalars}
-use Rattle.punycode_rules.specs.Labels.{kept}
-use Rattle.punycode_rules.specs.Labels.{spellingLimit}
+use Rattle.punycode_rules.specs.Labels.{kept, spellingLimit}
 use Rattle.punycode.specs.Internal.{limit, stateOf, lastOf, moreOf, Small, Inserted, Opened, Ends}
 use Rattle.punycode_rules.proofs.Digits.{scalar-below}
 use Rattle.punycode.proofs.Bounds.{small-start, small-more, small-last, place-in}

@@ -57,7 +57,7 @@ fn put_plain(l: &[u8], out: &mut [u8], to: usize) -> usize
     if l.len() > Spelling::LONGEST {
         return Spelling::OVER;
     }
-    lexis::text::put_text(l, out, to)
+    texts::put_text(l, out, to)
 }
 
 // Writes a label as it is compared.

@@ -9,7 +9,7 @@ use lib.Dec.{ltb, eqb}
 use lib.ListN.{length, getD, take, drop, length-map, List·getD-map}
 use borrow.Author.Tests.{lt-ltb, le-ltb, le-leb, lt-leb, eq-eqb, ne-eqb, eqb-true, ltb-true, ltb-false}
 use Rattle.reading.specs.Texts.{within, oneOf}
-use Rattle.lexis.specs.Bytes.{lower}
+use Rattle.lexis_rules.specs.Bytes.{lower}
 use Rattle.punycode_rules.specs.Punycode.{State, start, insert, last, more, digitOf, threshold, numbers, beforeLast, basic, consumed, punycode}
 use Rattle.punycode_rules.specs.Unicode.{scalar, scalars, utf8, utf8s}
 use Rattle.punycode_rules.specs.Labels.{kept, decoded, prefixed, spelled, onFirst, labels, joined, spelling}

@@ -8,7 +8,7 @@ use mathlib.Core.Option.{some}
 use lib.Dec.{lit<, lit≤}
 use lib.ListN.{length, drop}
 use Rattle.reading.specs.Texts.{bytes, oneOf}
-use Rattle.lexis.specs.Bytes.{lower}
+use Rattle.lexis_rules.specs.Bytes.{lower}
 use Rattle.punycode_rules.specs.Punycode.{basic}
 use Rattle.punycode_rules.specs.Unicode.{utf8s}
 use Rattle.punycode_rules.specs.Labels.{decoded, prefixed, labels, spelling, anyPrefixed, spellingLimit, doubleHyphen}

@@ -1,5 +1,5 @@
 // Runs `punycode::decode` on the sample strings of RFC 3492, section 7.1, and on labels at the edges, and `punycode::spell` and
-// `punycode::has_double_hyphen` on texts, and writes one line for each.
+// `hyphens::has_double_hyphen` on texts, and writes one line for each.
 //
 // Two arguments make a case: the file of the label behind its prefix (its name starts with d) or of the text, and how many bytes are lent. The
 // bytes lent are 170 before the call. A line has the two arguments and then what was answered:
@@ -16,7 +16,6 @@
 use libc::STDOUT_FILENO;
 use punycode::Decoded;
 use punycode::Spelling;
-ghost use Prim.Native.Nat.{_≤_, _<_};
 
 // The most bytes of a label or text that are read.
 const MOST: usize = 16384;
@@ -27,136 +26,28 @@ const MOST_LENT: usize = 4096;
 // The most bytes that are shown.
 const MOST_SHOWN: usize = 256;
 
-// A byte as a wider number.
-fn wide(b: u8) -> u64
-    ensures { λ r. ⌜ r < 256 ⌝ }
-{
-    b as u64
-}
-
-// The Adler-32 sum of the bytes (RFC 1950, 2.2).
-fn adler(s: &[u8]) -> u64 {
-    let mut low: u64 = 1;
-    let mut high: u64 = 0;
-    let mut i: usize = 0;
-    while i < s.len() {
-        low = (low + wide(s[i])) % 65521;
-        high = (high + low) % 65521;
-        i += 1;
-    }
-    high * 65536 + low
-}
-
-// 0 for a byte of 170, 1 for any other.
-fn differs(b: u8) -> usize
-    ensures { λ r. ⌜ r ≤ 1 ⌝ }
-{
-    if b == 170 {
-        return 0;
-    }
-    1
-}
-
-// How many of the bytes are not 170.
-fn changed(s: &[u8]) -> usize {
-    let mut count: usize = 0;
-    let mut i: usize = 0;
-    while i < s.len() {
-        count += differs(s[i]);
-        i += 1;
-    }
-    count
-}
-
-// Whether a byte is shown as itself.
-fn is_shown(b: u8) -> bool {
-    if b == b'%' {
-        return false;
-    }
-    b >= 33 && b <= 126
-}
-
-// Shows a byte.
-fn show_byte(b: u8) {
-    if is_shown(b) {
-        let one = [b; 1];
-        io::write_all(STDOUT_FILENO, &one);
-        return;
-    }
-    io::write_all(STDOUT_FILENO, b"%");
-    io::print_hex(STDOUT_FILENO, wide(b), 2);
-}
-
-// Shows the first bytes.
-fn show(s: &[u8]) {
-    let mut i: usize = 0;
-    while i < s.len() {
-        if i == MOST_SHOWN {
-            return;
-        }
-        show_byte(s[i]);
-        i += 1;
-    }
-}
-
-// A number of bytes to lend, cut to the most.
-fn limited(n: usize) -> usize
-    ensures { λ r. ⌜ r ≤ 4096 ⌝ }
-{
-    if n > MOST_LENT {
-        return MOST_LENT;
-    }
-    n
-}
-
-// What a digit tells.
-fn digit(b: u8) -> usize
-    ensures { λ r. ⌜ r < 256 ⌝ }
-{
-    if b < b'0' {
-        return 0;
-    }
-    (b - b'0') as usize
-}
-
-// The number that decimal digits tell.
-fn number_of(s: &[u8]) -> usize
-    ensures { λ r. ⌜ r ≤ 4096 ⌝ }
-{
-    let mut n: usize = 0;
-    let mut i: usize = 0;
-    while i < s.len() {
-        n = limited(n * 10 + digit(s[i]));
-        i += 1;
-    }
-    n
-}
-
 // Writes a number behind its name.
 fn put_number(label: &[u8], n: u64) {
     io::write_all(STDOUT_FILENO, label);
     io::print_decimal(STDOUT_FILENO, n);
 }
 
-// Writes what holds of the lent bytes: the written ones in front, and those past them.
-fn put_bytes(out: &[u8], written: usize) {
-    if written > out.len() {
-        io::write_all(STDOUT_FILENO, b", more written than lent");
-        return;
-    }
-    put_number(b", check ", adler(&out[..written]));
-    put_number(b" changed ", changed(&out[written..]) as u64);
+// Shows the first bytes.
+fn put_text(s: &[u8]) {
+    let first = sampling::front(s, MOST_SHOWN);
+    let mut text = [0u8; 3 * MOST_SHOWN];
+    let n = sampling::shown(&s[..first], &mut text);
     io::write_all(STDOUT_FILENO, b" text [");
-    show(&out[..written]);
+    io::write_all(STDOUT_FILENO, &text[..n]);
     io::write_all(STDOUT_FILENO, b"]");
 }
 
-// The smaller of two numbers.
-fn least(a: usize, b: usize) -> usize {
-    if a < b {
-        return a;
-    }
-    b
+// Writes what holds of the lent bytes: the written ones in front, and those past them.
+fn put_bytes(out: &[u8], written: usize) {
+    let n = sampling::front(out, written);
+    put_number(b", check ", sampling::adler(&out[..n]));
+    put_number(b" changed ", sampling::changed(&out[n..]) as u64);
+    put_text(&out[..n]);
 }
 
 // Decodes into the lent bytes, and writes the answer and what holds of them.
@@ -165,7 +56,7 @@ fn decode_into(label: &[u8], out: &mut [u8]) {
     match d {
         Decoded::Text { length } => {
             put_number(b": text ", length as u64);
-            put_bytes(out, least(length, out.len()));
+            put_bytes(out, length);
         }
         Decoded::Failed => {
             io::write_all(STDOUT_FILENO, b": failed");
@@ -178,12 +69,12 @@ fn decode_into(label: &[u8], out: &mut [u8]) {
     }
 }
 
-// How many bytes of a spelling are written.
-fn written(length: usize, room: usize) -> usize {
+// How many bytes of a spelling are written where there is room: none of one that is too long.
+fn written(length: usize) -> usize {
     if length > Spelling::LONGEST {
         return 0;
     }
-    least(length, room)
+    length
 }
 
 // 1 for yes, 0 for no.
@@ -198,32 +89,28 @@ fn number_if(b: bool) -> u64 {
 fn spell_into(text: &[u8], out: &mut [u8]) {
     put_number(
         b": double hyphen ",
-        number_if(punycode::has_double_hyphen(text)),
+        number_if(hyphens::has_double_hyphen(text)),
     );
     let n = punycode::spell(text, out);
     put_number(b" length ", n as u64);
-    put_bytes(out, written(n, out.len()));
+    put_bytes(out, written(n));
 }
 
-// Decodes or spells with so many lent bytes, each 170.
-fn run_with(decoding: bool, s: &[u8], room: usize)
-    requires { ⌜ room ≤ 4096 ⌝ }
-{
-    let mut out = [170u8; MOST_LENT];
+// Decodes or spells.
+fn run_into(decoding: bool, s: &[u8], out: &mut [u8]) {
     if decoding {
-        decode_into(s, &mut out[..room]);
-    } else {
-        spell_into(s, &mut out[..room]);
+        return decode_into(s, out);
     }
+    spell_into(s, out);
 }
 
-// The same on the file.
-fn run(decoding: bool, file: i32, room: usize)
-    requires { ⌜ room ≤ 4096 ⌝ }
-{
+// The same on the file, with so many lent bytes, each 170.
+fn run(decoding: bool, file: i32, room: usize) {
     let mut s = [0u8; MOST];
     let n = io::read_full(file, &mut s);
-    run_with(decoding, &s[..n], room);
+    let mut out = [170u8; MOST_LENT];
+    let lent = sampling::front(&out, room);
+    run_into(decoding, &s[..n], &mut out[..lent]);
 }
 
 // Whether an argument names a label, not a text.
@@ -243,13 +130,11 @@ fn open(argument: usize) -> i32 {
 }
 
 // The number of bytes that an argument tells, which is also written.
-fn room_of(argument: usize) -> usize
-    ensures { λ r. ⌜ r ≤ 4096 ⌝ }
-{
+fn room_of(argument: usize) -> usize {
     let mut text = io::buffer();
     let n = os::arg(argument, &mut text);
     io::write_all(STDOUT_FILENO, &text[..n]);
-    number_of(&text[..n])
+    sampling::number_of(&text[..n], MOST_LENT)
 }
 
 // One case: the number of each of its two arguments.
@@ -265,6 +150,7 @@ fn one_case(named: usize, lent: usize) {
     libc::close(file);
 }
 
+// Runs one case after the other.
 fn main() {
     let n = os::arg_count();
     let mut i: usize = 1;

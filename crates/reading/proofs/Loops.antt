@@ -5,17 +5,18 @@ use Prim.Native.Nat.{ℕ, zero, suc, _+_, _-_, _≤_, _<_, _^_}
 use native.Mathlib.Nat.{add-zero}
 use native.Mathlib.Omega.{arith}
 use mathlib.Core.Path.{_≡_, refl, sym, ap, _∙_}
-use mathlib.Core.Bool.{Bool, true, false}
+use mathlib.Core.Bool.{Bool, true, false, _||_}
 use mathlib.Core.List.{List, _∷_}
 use lib.Dec.{eqb}
 use lib.ListN.{length, getD, drop, length-drop, drop-of-length-le}
 use lib.Seq.{drop-cons, drop-drop, getD-drop}
 use mir.Syntax.{w64}
 use mir.Val as machine
-use Rattle.reading.specs.Readers.{Reader, run, many, choose, between}
+use Rattle.reading.specs.Readers.{Reader, run, many, between}
 use Rattle.reading.specs.Places.{Reaches}
 use Rattle.reading.specs.Locality.{Fits}
 use Rattle.reading.proofs.Readers.{there-at, many-more, many-none, many-run, between-is, between-not}
+use Rattle.sequences.proofs.Booleans.{no-true}
 
 module _ {f : Reader} {s : List ℕ} {at : ℕ} where
   pub reaches-start : Reaches f s at at
@@ -113,3 +114,16 @@ module _ (a z : ℕ) (f : Reader) (s : List ℕ) (at : ℕ) (r : Bool) (h : r �
 
     pub closes-not : r′ ≡ false → at ≡ at + between a z f (drop at s)
     closes-not t′ = let o : eqb (getD (drop at s) 0 0) a ≡ true = sym h ∙ t in rw (between-is a z f (drop at s) o, last, ← h′, t′) (omega arith)
+
+-- ==== lines
+
+-- bytes of which none ends a run are passed at once
+pub text-on : (c : ℕ → Bool) (s : List ℕ) (at i n : ℕ) (r : Bool) → Reaches (run c) s at i → (r ≡ false → Reaches (run c) s i (i + n)) → r ≡ false
+    → Reaches (run c) s at (i + n)
+text-on c s at i n r w f e = reaches-onto w (f e)
+
+-- one byte after the other, as long as none has hit
+pub hits-on : (c : ℕ → Bool) (s : List ℕ) (at j : ℕ) (hit r : Bool) → (hit ≡ false → Reaches (run c) s at (at + j)) → at + j < length s
+    → (r ≡ false → c (getD s (at + j) 0) ≡ true) → (hit || r) ≡ false → Reaches (run c) s at (at + (j + 1))
+hits-on c s at j true r w h f e = absurd (no-true (sym e))
+hits-on c s at j false r w h f e = piece-more c s at j true (w refl) h (sym (f e)) refl

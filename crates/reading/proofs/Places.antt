@@ -7,13 +7,14 @@ use mathlib.Core.List.{List, [], _∷_}
 use mathlib.Core.Option.{none, some}
 use lib.Dec.{eqb}
 use lib.ListN.{length, drop, take, getD, drop-of-length-le}
-use lib.Seq.{drop-drop, drop-cons}
+use lib.Seq.{drop-drop, drop-cons, getD-drop}
 use Rattle.reading.specs.Texts.{starts, follows}
 use Rattle.reading.specs.Readers.{Reader}
 use Rattle.reading.specs.Parsers.{Got, nothing, got, Parser, after, _>>=_, give, when, ahead, end, byte, taken, skipping, text, pass, branch, optional}
 use Rattle.reading.specs.Places.{from}
 use Rattle.reading.proofs.Texts.{starts-first}
 use Rattle.reading.proofs.Sequencing.{no-got, after-after, bind-none, bind-is, give-is, when-is, when-not, ahead-is, ahead-not, end-is, byte-is, byte-not, taken-is, skipping-is, text-is, text-not, pass-is, pass-not, branch-yes, branch-no, optional-some, optional-none}
+use native.Mathlib.Nat.{add-zero}
 
 -- ==== what a parser gave at a place
 
@@ -160,3 +161,10 @@ module _ {A : Type 0} (p : Parser A) (s : List ℕ) (at : ℕ) where
 
   pub none-there : nothing ≡ from p s at → got none at ≡ from (optional p) s at
   none-there h = at-got (optional p) s at none 0 at (optional-none p (drop at s) (none-at p s at h)) (omega arith)
+
+-- a byte past the end e of what a reader takes
+pub behind : (s : List ℕ) (at n k e : ℕ) → e ≡ at + n → getD (drop e s) k 0 ≡ getD (drop at s) (n + k) 0
+behind s at n k e q = simp getD-drop (ap (λ (j : ℕ). getD s j 0) (omega arith))
+
+pub behind-first : (s : List ℕ) (at n e : ℕ) → e ≡ at + n → getD (drop e s) 0 0 ≡ getD (drop at s) n 0
+behind-first s at n e q = behind s at n 0 e q ∙ rw add-zero

@@ -14,16 +14,16 @@ use Rattle.sequences.specs.Stored.{Put}
 use Rattle.sequences.proofs.Splices.{sets-front}
 use Rattle.reading.specs.Parsers.{nothing}
 use Rattle.reading.proofs.Sequencing.{bind-none}
-use Rattle.lexis.specs.Limits.{byteLimit}
+use Rattle.lexis_rules.specs.Limits.{byteLimit}
 use Rattle.authserv.specs.declared.Identifier.the-variants.{Readable, Unreadable}
-use Rattle.authserv.specs.Identifier.{identifier}
+use Rattle.authserv_rules.specs.Identifier.{identifier}
 use Rattle.authserv.specs.Answers.{identifierAt}
 use Rattle.authserv.proofs.Identifiers.{identifier-not}
 use Rattle.body.specs.Body.{Reading, unreadable, malformed, newer, noResult, results, head, reading}
 use Rattle.body.specs.Report.{refusal, fitted, answer, report}
 use Rattle.body.proofs.Readings.{report-is}
-use Rattle.report.specs.declared.Reported.{Reported}
-use Rattle.report.specs.Answers.{answerOf, leaves}
+use Rattle.body.specs.declared.Reported.{Reported}
+use Rattle.body.specs.Answers.{answerOf, leaves}
 use Rattle.report.specs.Internal.{wholeText, refused, wholeAnswer, Said}
 use Rattle.report.proofs.Fronts.{fronted-text}
 

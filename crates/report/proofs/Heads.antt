@@ -1,17 +1,18 @@
 -- What stands behind the identifier of a body, by the tests that the code makes in turn: the header version, and what has to follow the
 -- head. And the text of the identifier changes nothing of what is written behind its line, so that it may be left out. Assumes nothing.
-use Prim.Native.Nat.{ℕ, zero, suc, _+_, _-_, _*_, _≤_, _<_, _^_}
+use Prim.Native.Nat.{ℕ, zero, suc, _+_, _-_, _*_, _≤_}
 use native.Mathlib.Omega.{arith}
 use mathlib.Core.Path.{_≡_, refl, sym, ap, _∙_, subst}
 use mathlib.Core.Bool.{Bool, true, false}
 use mathlib.Core.List.{List, [], _∷_, _++_}
 use mathlib.Core.Option.{Option, none, some}
-use borrow.Author.Tests.{eqb-true, eqb-false}
+use borrow.Author.Tests.{eqb-true}
 use lib.Dec.{eqb}
 use lib.ListN.{length, getD, drop, length-append, length-drop}
 use lib.Seq.{getD-drop, length-take-le}
-use Rattle.sequences.specs.Stored.{Wrote}
+use Rattle.sequences.specs.Stored.{cap, Wrote, Clipped}
 use Rattle.sequences.proofs.Booleans.{cond-le}
+use Rattle.sequences.proofs.Clips.{clipped-wrote}
 use Rattle.sequences.proofs.Splices.{wrote-none, wrote-long, wrote-count}
 use Rattle.reading.specs.Texts.{within, same, follows}
 use Rattle.reading.specs.Parsers.{Got, nothing, got, optional}
@@ -20,25 +21,25 @@ use Rattle.reading.proofs.Texts.{same-refl, same-eq}
 use Rattle.reading.proofs.Readers.{run-fits, run-narrow}
 use Rattle.reading.proofs.Places.{at-got}
 use Rattle.reading.proofs.Sequencing.{bind-got, give-is, optional-some, optional-none}
-use Rattle.lexis.specs.Limits.{byteLimit}
-use Rattle.lexis.specs.declared.Class.the-variants.{Delimiter, Digit, Zero}
-use Rattle.lexis.specs.Bytes.{inClass}
-use Rattle.lexis.specs.Pieces.{space, digits, zeros, leading, isOne}
-use Rattle.lexis.proofs.Numbers.{one-is}
-use Rattle.authserv.specs.declared.Identifier.the-variants.{Readable, Unreadable}
+use Rattle.lexis_rules.specs.Limits.{byteLimit}
+use Rattle.lexis_rules.specs.declared.Class.the-variants.{Delimiter, Digit, Zero}
+use Rattle.lexis_rules.specs.Bytes.{inClass}
+use Rattle.lexis_rules.specs.Pieces.{space, digits, zeros, leading, isOne}
+use Rattle.lexis_rules.proofs.Numbers.{one-is}
+use Rattle.authserv.specs.declared.Identifier.the-variants.{Readable}
 use Rattle.authserv.specs.declared.Version.the-variants.{Absent, Stated}
-use Rattle.authserv.specs.Identifier.{identifier}
-use Rattle.authserv.specs.Version.{stated}
-use Rattle.authserv.specs.Answers.{readable, identifierFrom, identifierAt, textOf, versionFrom, versionAt, versionGot}
+use Rattle.authserv_rules.specs.Identifier.{identifier}
+use Rattle.authserv_rules.specs.Version.{stated}
+use Rattle.authserv.specs.Answers.{identifierAt, textOf, versionFrom, versionAt, versionGot}
 use Rattle.authserv.proofs.Identifiers.{identifier-found, identifier-inside}
 use Rattle.authserv.proofs.Versions.{version-got}
-use Rattle.resinfo.specs.Results.{Result, one, orOne}
-use Rattle.resinfo.specs.Values.{span}
+use Rattle.resinfo_rules.specs.Results.{Result, one, orOne}
+use Rattle.values.specs.Values.{span}
 use Rattle.resinfo.proofs.Methods.{one-alone}
 use Rattle.body.specs.Body.{Head, Reading, malformed, newer, noResult, results, head, resinfos, wordNone, payload, headed, reading}
 use Rattle.body.specs.Report.{line, idLine, versionLine, noneLine, lines}
 use Rattle.body.proofs.Readings.{reading-is, headed-is}
-use Rattle.report.specs.declared.Reported.{Reported}
+use Rattle.body.specs.declared.Reported.{Reported}
 use Rattle.report.specs.Internal.{refused, Behind, newerAt, headedAt, Said}
 use Rattle.body.proofs.Sizes.{id-size}
 use Rattle.report.proofs.Fronts.{wrote-fronted, fronted-then}
@@ -82,14 +83,15 @@ unfolding versionLine line
 version-line v = omega (arith, length-append v (10 ∷ []))
 
 module _ (s : List ℕ) (a e : ℕ) (old : List ℕ) (to : ℕ) where
-  pub newer-fits : Room s to × ((a ≤ e) × (e ≤ length s)) → to + length (versionLine (span s a e)) < 2 ^ 64
+  newer-fits : Room s to × ((a ≤ e) × (e ≤ length s)) → to + length (versionLine (span s a e)) ≤ cap
   newer-fits r = omega (arith, version-line (span s a e), span-size s a e (r .1 .0) (r .1 .1), r .0, r .1)
 
   module _ (d : Bool) (h : d ≡ follows (inClass Delimiter) (drop e s)) where
-    pub newer-stated : d ≡ true → (new : List ℕ) (n : ℕ) → Wrote old to (versionLine (span s a e)) new n
+    pub newer-stated : d ≡ true → Room s to × ((a ≤ e) × (e ≤ length s)) → (new : List ℕ) (n : ℕ) → Clipped old to (versionLine (span s a e)) new n
         → Behind (newerAt s a e) old to new (record { number = 8; place = 0; written = n; ignored = 0 })
     unfolding newerAt
-    newer-stated t new n w =
+    newer-stated t r new n c =
+        let w = clipped-wrote (newer-fits r) c in
         let f : follows (inClass Delimiter) (drop e s) ≡ true = sym h ∙ t in
         rw (newerAt, f) (record { answer = rw (w .place); bytes = wrote-fronted w })
 
@@ -273,34 +275,6 @@ module _ (i : List ℕ) where
     alike-said x y r (list rs) b =
         record { answer = b .answer ∙ rw (after-id (lines rs)); bytes = fronted-then (idLine i) (lines rs) w (b .bytes) }
 
--- the value of an identifier that is found is not empty
-readable-some : (s : List ℕ) (a e : ℕ) (q : Bool) (b f : ℕ) (p : Bool) → Readable b f p ≡ readable s a e q → f ≡ b → ⊥
-unfolding readable
-readable-some s a e q b f p h z = go (eqb e a) refl
-  where
-    apart : Readable b f p ≡ Unreadable → ⊥
-    apart i = let o : _≡_ {A = ℕ} 0 1 = cc in omega arith
-
-    second : eqb e a ≡ false → (t : Bool) → follows (inClass Delimiter) (drop e s) ≡ t → ⊥
-    second n true d =
-        let w : Readable b f p ≡ Readable a e q = rw (readable, n, d) at h in
-        let u : b ≡ a = cc in
-        let v : f ≡ e = cc in
-        eqb-false e a n (omega arith)
-    second n false d = apart (rw (readable, n, d) at h)
-
-    go : (t : Bool) → eqb e a ≡ t → ⊥
-    go true n = apart (rw (readable, n) at h)
-    go false n = second n (follows (inClass Delimiter) (drop e s)) refl
-
-identifier-some : (s : List ℕ) (a e : ℕ) (q : Bool) → Readable a e q ≡ identifierAt s → e ≡ a → ⊥
-unfolding identifierFrom
-identifier-some s a e q h z = go (eqb (getD (drop (space s) s) 0 0) 34) refl
-  where
-    go : (t : Bool) → eqb (getD (drop (space s) s) 0 0) 34 ≡ t → ⊥
-    go true t = readable-some s _ _ _ a e q (rw (identifierFrom, t) at h) z
-    go false t = readable-some s _ _ _ a e q (rw (identifierFrom, t) at h) z
-
 module _ (s : List ℕ) (a e : ℕ) (q : Bool) (old : List ℕ)
     (room : (length s ≤ byteLimit) × (Readable a e q ≡ identifierAt s)) where
   id-reads : identifier s ≡ got (textOf s a e q) e
@@ -309,15 +283,13 @@ module _ (s : List ℕ) (a e : ℕ) (q : Bool) (old : List ℕ)
   id-short : length (idLine (textOf s a e q)) ≤ 3 * byteLimit + 4
   id-short = omega (arith, id-size s (textOf s a e q) e id-reads, identifier-inside s a e q (room .1) .1, room .0)
 
-  pub id-room : ((a < e) × (e ≤ length s)) × (length (idLine (textOf s a e q)) < 2 ^ 64)
-  id-room =
-      let i = identifier-inside s a e q (room .1) in
-      ((omega (arith, i, identifier-some s a e q (room .1)), i .1), omega (arith, id-short))
+  module _ (mid : List ℕ) (n : ℕ) (c : Clipped old 0 (idLine (textOf s a e q)) mid n) where
+    id-wrote : Wrote old 0 (idLine (textOf s a e q)) mid n
+    id-wrote = clipped-wrote (omega (arith, id-short)) c
 
-  module _ (mid : List ℕ) (n : ℕ) (w : Wrote old 0 (idLine (textOf s a e q)) mid n) where
     pub body-room : Room s n
-    body-room = (room .0, omega (arith, id-short, wrote-count w))
+    body-room = (room .0, omega (arith, id-short, wrote-count id-wrote))
 
     pub body-said : (new : List ℕ) (r : Reported) → Behind (headedAt s e) mid n new r → Said (reading s) old new r
     body-said new r b =
-        alike-said (textOf s a e q) old mid n new w (reading s) (headedAt s e) r (reading-alike s (textOf s a e q) e id-reads) b
+        alike-said (textOf s a e q) old mid n new id-wrote (reading s) (headedAt s e) r (reading-alike s (textOf s a e q) e id-reads) b

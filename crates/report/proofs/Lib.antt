@@ -1,9 +1,6 @@
-pub mod Escapes
-pub mod Columns
 pub mod Turns
 pub mod Fronts
 pub mod Passes
 pub mod Payloads
 pub mod Heads
 pub mod Ends
-pub mod Headlines

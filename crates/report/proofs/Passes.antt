@@ -11,9 +11,9 @@ use Rattle.reading.specs.Parsers.{Got, nothing, got}
 use Rattle.reading.specs.Places.{from, listAt, endAt}
 use Rattle.reading.proofs.Places.{took}
 use Rattle.reading.proofs.Repeats.{list-none, end-none, further, list-more, end-more}
-use Rattle.lexis.specs.Limits.{byteLimit}
-use Rattle.resinfo.specs.Results.{Result}
-use Rattle.resinfo.specs.Table.{understood}
+use Rattle.lexis_rules.specs.Limits.{byteLimit}
+use Rattle.resinfo_rules.specs.Results.{Result}
+use Rattle.resinfo_rules.specs.Table.{understood}
 use Rattle.body.specs.Body.{resinfo}
 use Rattle.body.specs.Report.{resultLines, lines, ignoredOf}
 use Rattle.body.proofs.Sequence.{resinfo-within}

@@ -8,7 +8,8 @@ use mathlib.Core.List.{List, [], _∷_}
 use borrow.Author.Tests.{leb-true, leb-false}
 use lib.Dec.{leb}
 use lib.ListN.{length, drop, length-drop}
-use Rattle.sequences.specs.Stored.{Wrote}
+use Rattle.sequences.specs.Stored.{cap, Clipped}
+use Rattle.sequences.proofs.Clips.{clipped-wrote}
 use Rattle.sequences.proofs.Booleans.{no-true}
 use Rattle.reading.specs.Texts.{bytes, within, same, starts}
 use Rattle.reading.specs.Parsers.{Got, nothing, got, Parser, _>>_, give, when, end, several}
@@ -18,20 +19,20 @@ use Rattle.reading.proofs.Sequencing.{no-got, bind-none, pass-not}
 use Rattle.reading.proofs.Bounds.{several-within}
 use Rattle.reading.proofs.Places.{took, none-at, goes-on, stops, gives, passes, fails, end-at, end-not, skipping-at}
 use Rattle.reading.proofs.Repeats.{Turn, stop, turn, several-inv, list-is}
-use Rattle.lexis.specs.Limits.{byteLimit}
-use Rattle.lexis.specs.Bytes.{lower, alike}
-use Rattle.lexis.specs.Pieces.{space, keyword}
-use Rattle.lexis.specs.Words.{keywordText, skip, readKeyword, readWord}
-use Rattle.resinfo.specs.Results.{Result, mark}
+use Rattle.lexis_rules.specs.Limits.{byteLimit}
+use Rattle.lexis_rules.specs.Bytes.{lower, alike}
+use Rattle.lexis_rules.specs.Pieces.{space, keyword}
+use Rattle.lexis_rules.specs.Words.{keywordText, skip, readKeyword, readWord}
+use Rattle.resinfo_rules.specs.Results.{Result, mark}
 use Rattle.resinfo.specs.Parts.{marked}
-use Rattle.resinfo.specs.Values.{span}
+use Rattle.values.specs.Values.{span}
 use Rattle.resinfo.proofs.Marks.{mark-is, mark-reads, keyword-reads, marked-no}
 use Rattle.body.specs.Body.{Reading, malformed, noResult, results, resinfo, resinfos, wordNone, payload}
 use Rattle.body.specs.Report.{line, noneLine, lines}
 use Rattle.body.proofs.Readings.{payload-is}
 use Rattle.body.proofs.Sequence.{resinfo-within, Reads, over, more, reads-inv}
 use Rattle.body.proofs.NoResult.{word-no-result}
-use Rattle.report.specs.declared.Reported.{Reported}
+use Rattle.body.specs.declared.Reported.{Reported}
 use Rattle.report.specs.declared.results.Results.{Results}
 use Rattle.report.specs.Internal.{succeeds, refused, Fronted, Behind, ResultsPut}
 use Rattle.body.proofs.Sizes.{lines-size}
@@ -205,7 +206,7 @@ module _ (xs : List ℕ) where
 abbrev pub Room : List ℕ → ℕ → Type 0
 Room s to = (length s ≤ byteLimit) × (to ≤ 2 ^ 32)
 
-pub none-fits : (to : ℕ) → to ≤ 2 ^ 32 → to + length noneLine < 2 ^ 64
+none-fits : (to : ℕ) → to ≤ 2 ^ 32 → to + length noneLine ≤ cap
 unfolding noneLine line
 none-fits to h = let l : length noneLine ≡ 5 = refl in omega arith
 
@@ -218,9 +219,11 @@ pub behind-malformed : {x : Reading} {old new text : List ℕ} {to : ℕ} {r : R
 behind-malformed m e f = rw m (record { answer = e; bytes = fronted-none f })
 
 module _ (s : List ℕ) (at : ℕ) (old : List ℕ) (to : ℕ) (r : Bool) (h : r ≡ succeeds wordNone (drop at s)) where
-  pub payload-word : r ≡ true → (new : List ℕ) (n : ℕ) → Wrote old to noneLine new n
+  pub payload-word : r ≡ true → to ≤ 2 ^ 32 → (new : List ℕ) (n : ℕ) → Clipped old to noneLine new n
       → Behind (payload [] (drop at s)) old to new (record { number = 0; place = 0; written = n; ignored = 0 })
-  payload-word t new n w = rw (payload-none (drop at s) (sym h ∙ t)) (record { answer = rw (w .place); bytes = wrote-fronted w })
+  payload-word t l new n c =
+      let w = clipped-wrote (none-fits to l) c in
+      rw (payload-none (drop at s) (sym h ∙ t)) (record { answer = rw (w .place); bytes = wrote-fronted w })
 
   module _ (f : r ≡ false) where
     no : succeeds wordNone (drop at s) ≡ false

@@ -8,16 +8,17 @@ use mathlib.Core.List.{List, _∷_, _++_, map}
 use mathlib.Core.Option.{none, some}
 use lib.ListN.{length, drop, length-append}
 use lib.Seq.{drop-drop}
-use Rattle.sequences.specs.Stored.{Wrote}
+use Rattle.sequences.specs.Stored.{cap, Wrote, Clipped}
+use Rattle.sequences.proofs.Clips.{clipped-wrote}
 use Rattle.sequences.proofs.Splices.{wrote-none, wrote-then, Left, left-start, left-step, left-done}
 use Rattle.reading.specs.Parsers.{Got, nothing, got, Parser, _>>=_, give, byte, optional, several}
 use Rattle.reading.specs.Places.{from, listAt, endAt}
 use Rattle.reading.proofs.Sequencing.{byte-is, byte-not}
 use Rattle.reading.proofs.Places.{at-got, at-none, goes-on, stops, gives, skipping-at, one-more, none-there}
 use Rattle.reading.proofs.Repeats.{list-is, list-none, end-none, further, list-more, end-more}
-use Rattle.lexis.specs.Bytes.{lower}
-use Rattle.lexis.specs.Pieces.{space}
-use Rattle.lexis.specs.Words.{keywordText, skip}
+use Rattle.lexis_rules.specs.Bytes.{lower}
+use Rattle.lexis_rules.specs.Pieces.{space}
+use Rattle.lexis_rules.specs.Words.{keywordText, skip}
 use Rattle.authserv.specs.Answers.{textOf}
 use Rattle.resinfo.specs.declared.Step.{Step}
 use Rattle.resinfo.specs.declared.Step.the-variants as step
@@ -25,27 +26,26 @@ use Rattle.resinfo.specs.declared.parts.Label.{Label}
 use Rattle.resinfo.specs.declared.parts.Label.the-variants as label
 use Rattle.resinfo.specs.declared.parts.Method.the-variants as method
 use Rattle.resinfo.specs.declared.parts.Reason.the-variants.{Stated, Absent}
-use Rattle.resinfo.specs.declared.value.Found.{Found}
-use Rattle.resinfo.specs.declared.value.Found.the-variants as found
-use Rattle.resinfo.specs.declared.value.Value as place
-use Rattle.resinfo.specs.declared.value.Value.the-variants as at
-use Rattle.resinfo.specs.Results.{Property, Result, next, reason, property, methodspec, result}
-use Rattle.resinfo.specs.Values.{span, valueOf, valueAt}
+use Rattle.values.specs.declared.Found.{Found}
+use Rattle.values.specs.declared.Found.the-variants as found
+use Rattle.values.specs.declared.Value as place
+use Rattle.resinfo_rules.specs.Results.{Property, Result, next, reason, property, methodspec, result}
+use Rattle.values.specs.Values.{span, valueOf, valueAt}
 use Rattle.resinfo.specs.Parts.{marked, methodAt, reasonAt, reasonGot, labelAt}
 use Rattle.resinfo.specs.Steps.{closes, endOf, propertyOf, stepOf, stepAt, propertyGot}
-use Rattle.resinfo.specs.Table.{listed, tabled, table, ptypes, knownVersion, knownMethod, knownTypes, understood}
+use Rattle.resinfo_rules.specs.Table.{listed, tabled, table, ptypes, knownVersion, knownMethod, knownTypes, understood}
 use Rattle.resinfo.proofs.Marks.{marked-yes, marked-no}
 use Rattle.resinfo.proofs.Methods.{method-found, method-not}
 use Rattle.resinfo.proofs.Reasons.{reason-got}
 use Rattle.resinfo.proofs.Steps.{step-got}
-use Rattle.resinfo.proofs.PartPlaces.{method-places, reason-places, label-places}
-use Rattle.resinfo.proofs.ValueInside.{Spans, value-inside}
-use Rattle.resinfo.proofs.Results.{property-within}
+use Rattle.resinfo.proofs.PartPlaces.{label-places}
+use Rattle.resinfo_rules.proofs.Results.{property-within}
 use Rattle.body.specs.Body.{resinfo}
 use Rattle.body.specs.Report.{methodLine, reasonLine, propertyLine, propertyLines, resultLines}
 use Rattle.report.specs.declared.results.Details.{Details}
 use Rattle.report.specs.declared.results.Stated as stated
-use Rattle.report.specs.Internal.{Stands, methodText, reasonText, propertyText, optionAt, optionEnd, propertiesAt, detailLines, turnLines, PropertiesPut, ReasonPut, DetailsPut, TurnRead}
+use Rattle.report_lines.specs.Lines.{methodText, reasonText, propertyText}
+use Rattle.report.specs.Internal.{optionAt, optionEnd, propertiesAt, detailLines, turnLines, PropertiesPut, ReasonPut, DetailsPut, TurnRead}
 
 -- ==== a part that may be missing
 
@@ -81,18 +81,13 @@ module _ (s : List ℕ) (i : ℕ) where
   reason-found a e false h = ap (reasonGot s) h ∙ reason-got s i
 
   module _ (a e : ℕ) (q : Bool) (h : Stated a e q ≡ reasonAt s i) where
-    -- its text stands inside, and its line is the reason's
-    pub reason-room : (to : ℕ) → to + length (reasonLine (optionAt reason s i)) < 2 ^ 64
-        → ((a < e) × (e ≤ length s)) × (to + length (reasonText s a e q) < 2 ^ 64)
-    reason-room to l =
-        let p = reason-places s i a e q h in
-        let k : to + length (reasonText s a e q) < 2 ^ 64 = rw (option-some reason s i (textOf s a e q) e (reason-found a e q h)) at l in
-        ((p .value, p .inside), k)
-
-    pub reason-put : (old new : List ℕ) (to n : ℕ) → Wrote old to (reasonText s a e q) new n → ReasonPut s i old to new (record { end = e; next = n })
-    reason-put old new to n w =
+    pub reason-put : (old new : List ℕ) (to n : ℕ) → to + length (reasonLine (optionAt reason s i)) < 2 ^ 64 → Clipped old to (reasonText s a e q) new n
+        → ReasonPut s i old to new (record { end = e; next = n })
+    reason-put old new to n l c =
         let f = reason-found a e q h in
-        record { end = sym (end-some reason s i (textOf s a e q) e f); wrote = rw (option-some reason s i (textOf s a e q) e f) w }
+        let o = option-some reason s i (textOf s a e q) e f in
+        let k : to + length (reasonText s a e q) < 2 ^ 64 = rw o at l in
+        record { end = sym (end-some reason s i (textOf s a e q) e f); wrote = rw o (clipped-wrote (omega arith) c) }
 
   pub reason-absent : Absent ≡ reasonAt s i → (old : List ℕ) (to : ℕ) → ReasonPut s i old to old (record { end = i; next = to })
   unfolding reasonLine
@@ -102,23 +97,13 @@ module _ (s : List ℕ) (i : ℕ) where
 
 -- ==== properties
 
--- a value that was found from one place up to another stands there
-value-stands : (s : List ℕ) (v : place.Value) (a e : ℕ) → Spans v a e → a < e → e ≤ length s → Stands s v
-value-stands s (at.Token b f) a e h l m = (omega (arith, h), omega (arith, h))
-value-stands s (at.Quoted b f) a e h l m = (omega (arith, h), omega (arith, h))
-value-stands s (at.Mailbox b n f q) a e h l m = (omega (arith, h), (omega (arith, h), omega (arith, h)))
-value-stands s (at.AtDomain b f) a e h l m = (omega (arith, h), omega (arith, h))
-
--- a ptype from a up to e, a property from b up to f and a value stand inside
-pub record PropertyPlaces (s : List ℕ) (a e b f : ℕ) (v : place.Value) : Type 0 where
+-- a ptype from a up to e stands inside
+pub record TypeStands (s : List ℕ) (a e : ℕ) : Type 0 where
   pub ptype : a < e
   pub typed : e ≤ length s
-  pub name : b < f
-  pub named : f ≤ length s
-  pub value : Stands s v
 
 abbrev PropertyStands : List ℕ → Step → Type 0
-PropertyStands s (step.Property a e b f v x) = PropertyPlaces s a e b f v
+PropertyStands s (step.Property a e b f v x) = TypeStands s a e
 PropertyStands s step.Done = Unit
 PropertyStands s step.Refused = Unit
 
@@ -134,20 +119,13 @@ module _ (s : List ℕ) (i : ℕ) where
       valued a e b f k h found.Refused j = tt
       valued a e b f k h (found.Read v x) j =
           let p = label-places s i a e b f k h in
-          let w = value-inside s k v x (sym j) in
-          record {
-            ptype = p .ptype;
-            typed = omega (arith, p .dot, p .property, p .equals, p .inside);
-            name = p .property;
-            named = omega (arith, p .equals, p .inside);
-            value = value-stands s v k x (w .0) (w .1 .0) (w .1 .1);
-          }
+          record { ptype = p .ptype; typed = omega (arith, p .dot, p .property, p .equals, p .inside) }
 
       go : (l : Label) → labelAt s i ≡ l → PropertyStands s (stepOf s i l)
       go label.Missing h = ends (closes (drop i s))
       go (label.Read a e b f k) h = valued a e b f k (sym h) (valueAt s k) refl
 
-  pub property-places : (a e b f : ℕ) (v : place.Value) (x : ℕ) → step.Property a e b f v x ≡ stepAt s i → PropertyPlaces s a e b f v
+  pub property-places : (a e b f : ℕ) (v : place.Value) (x : ℕ) → step.Property a e b f v x ≡ stepAt s i → TypeStands s a e
   property-places a e b f v x h = subst (λ (r : Step). PropertyStands s r) (sym h) property-stands
 
 abbrev propertyOn : List ℕ → ℕ → ℕ → ℕ → ℕ → place.Value → Property
@@ -185,21 +163,18 @@ module _ (s : List ℕ) (at : ℕ) (old : List ℕ) (to : ℕ) (out : List ℕ) 
     writing-further = further property s i property-within (propertyOn s a e b f v) x read
 
     -- there is room for its line
-    pub writing-room : to + length (propertyLines (listAt property s at)) < 2 ^ 64
-        → (((a ≤ e) × (e ≤ length s)) × ((b ≤ f) × (f ≤ length s))) × (Stands s v × (n + length (propertyText s a e b f v) < 2 ^ 64))
+    writing-room : to + length (propertyLines (listAt property s at)) < 2 ^ 64 → n + length (propertyText s a e b f v) ≤ cap
     writing-room l =
-        let p = property-places s i a e b f v x h in
-        let k = length-append (propertyText s a e b f v) (propertyLines (listAt property s x)) in
-        (((omega (arith, p .ptype), p .typed), (omega (arith, p .name), p .named)), (p .value, omega (arith, l, k, ap length split, w .left .place)))
+        let k = length-append (propertyText s a e b f v) (propertyLines (listAt property s x)) in omega (arith, l, k, ap length split, w .left .place)
 
-    pub writing-more : (t : Bool) → t ≡ (known && listed ptypes (map lower (span s a e))) → (out′ : List ℕ) (m : ℕ)
-        → Wrote out n (propertyText s a e b f v) out′ m → Writing s at old to out′ x m t
-    writing-more t q out′ m u =
+    pub writing-more : to + length (propertyLines (listAt property s at)) < 2 ^ 64 → (t : Bool) → t ≡ (known && listed ptypes (map lower (span s a e)))
+        → (out′ : List ℕ) (m : ℕ) → Clipped out n (propertyText s a e b f v) out′ m → Writing s at old to out′ x m t
+    writing-more l t q out′ m u =
         let g = propertyOn s a e b f v in
         let ps = listAt property s x in
         let k : knownTypes (listAt property s i) ≡ (listed ptypes (g .ptype) && knownTypes ps) = ap knownTypes more ∙ types-more g ps in
         record {
-          left = left-step (w .left) split u;
+          left = left-step (w .left) split (clipped-wrote (writing-room l) u);
           end = sym (end-more property s i property-within g x read) ∙ w .end;
           types = rw q (and-assoc known (listed ptypes (g .ptype)) (knownTypes ps) ∙ rw k at (w .types));
         }
@@ -334,24 +309,19 @@ module _ (s : List ℕ) (i a : ℕ) (q : a ≡ i + marked 59 (drop i s)) where
       turn-long = ap length lines-turn ∙ length-append (methodText s b e f g) (detailLines s g)
 
       -- there is room for the line of the method, and then for the others
-      pub turn-room : (to : ℕ) → to + length (turnLines s i) < 2 ^ 64
-          → (((b ≤ e) × (e ≤ length s)) × ((f ≤ g) × (g ≤ length s))) × (to + length (methodText s b e f g) < 2 ^ 64)
-      turn-room to l =
-          let p = method-places s a b e o f g h in
-          let k : e ≤ length s = omega (arith, p .after, p .result, p .inside) in
-          (((omega (arith, p .method), k), (omega (arith, p .result), p .inside)), omega (arith, l, turn-long))
+      module _ (to : ℕ) (l : to + length (turnLines s i) < 2 ^ 64) (old mid : List ℕ) (n : ℕ) (c : Clipped old to (methodText s b e f g) mid n) where
+        turn-wrote : Wrote old to (methodText s b e f g) mid n
+        turn-wrote = clipped-wrote (omega (arith, l, turn-long)) c
 
-      pub turn-rest : (to : ℕ) → to + length (turnLines s i) < 2 ^ 64 → (old new : List ℕ) (n : ℕ) → Wrote old to (methodText s b e f g) new n
-          → n + length (detailLines s g) < 2 ^ 64
-      turn-rest to l old new n w = omega (arith, l, turn-long, w .place)
+        pub turn-rest : n + length (detailLines s g) < 2 ^ 64
+        turn-rest = omega (arith, l, turn-long, turn-wrote .place)
 
-      pub turn-read : (t : Bool) → t ≡ (o && tabled table (map lower (span s b e)) (map lower (span s f g))) → (old mid new : List ℕ) (to n : ℕ) (d : Details)
-          → Wrote old to (methodText s b e f g) mid n → DetailsPut s g mid n new d → (u : Bool) → u ≡ (t && d .known)
-          → TurnRead s i old to new (d .end) (d .next) u
-      turn-read t q old mid new to n d w p u r =
-          record {
-            result = whole;
-            reads = ap (λ (z : ℕ). got whole z) (p .end) ∙ read-whole;
-            known = r ∙ (rw (q, p .known) (sym known-whole));
-            wrote = rw lines-whole (wrote-then w (p .wrote));
-          }
+        pub turn-read : (t : Bool) → t ≡ (o && tabled table (map lower (span s b e)) (map lower (span s f g))) → (new : List ℕ) (d : Details)
+            → DetailsPut s g mid n new d → (u : Bool) → u ≡ (t && d .known) → TurnRead s i old to new (d .end) (d .next) u
+        turn-read t q new d p u r =
+            record {
+              result = whole;
+              reads = ap (λ (z : ℕ). got whole z) (p .end) ∙ read-whole;
+              known = r ∙ (rw (q, p .known) (sym known-whole));
+              wrote = rw lines-whole (wrote-then turn-wrote (p .wrote));
+            }

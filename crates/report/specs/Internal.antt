@@ -1,55 +1,29 @@
 -- What private functions say: no public contract cites these. Assumes nothing: these are definitions.
-use Prim.Native.Nat.{ℕ, _+_, _≤_, _<_}
+use Prim.Native.Nat.{ℕ, _+_}
 use mathlib.Core.Path.{_≡_}
 use mathlib.Core.Bool.{Bool, true, false}
-use mathlib.Core.List.{List, [], _∷_, _++_}
+use mathlib.Core.List.{List, [], _++_}
 use mathlib.Core.Option.{Option, none, some}
 use lib.ListN.{length, take, drop}
 use lib.Seq.{sets}
 use Rattle.sequences.specs.Stored.{Wrote}
-use Rattle.reading.specs.Texts.{bytes, follows}
+use Rattle.reading.specs.Texts.{follows}
 use Rattle.reading.specs.Parsers.{nothing, got, Parser, optional}
 use Rattle.reading.specs.Places.{from, listAt, endAt}
-use Rattle.lexis.specs.declared.Class.the-variants.{Delimiter}
-use Rattle.lexis.specs.Bytes.{inClass}
-use Rattle.lexis.specs.Words.{keywordText}
-use Rattle.authserv.specs.Answers.{textOf}
-use Rattle.authserv.specs.Version.{stated}
-use Rattle.resinfo.specs.declared.value.Value as place
-use Rattle.resinfo.specs.declared.value.Value.the-variants as at
-use Rattle.resinfo.specs.Results.{Value, Property, Result, orOne, reason, property}
-use Rattle.resinfo.specs.Values.{span, valueOf}
-use Rattle.resinfo.specs.Table.{knownTypes, understood}
+use Rattle.lexis_rules.specs.declared.Class.the-variants.{Delimiter}
+use Rattle.lexis_rules.specs.Bytes.{inClass}
+use Rattle.authserv_rules.specs.Version.{stated}
+use Rattle.resinfo_rules.specs.Results.{Property, Result, orOne, reason, property}
+use Rattle.values.specs.Values.{span}
+use Rattle.resinfo_rules.specs.Table.{knownTypes, understood}
 use Rattle.body.specs.Body.{Reading, unreadable, malformed, newer, noResult, results, resinfo, headed}
-use Rattle.body.specs.Report.{escape, line, idLine, versionLine, noneLine, reasonLine, letterOf, propertyLine, propertyLines, resultLines, lines, ignoredOf}
-use Rattle.report.specs.declared.Reported.{Reported}
+use Rattle.body.specs.Report.{idLine, versionLine, noneLine, reasonLine, propertyLines, resultLines, lines, ignoredOf}
+use Rattle.body.specs.declared.Reported.{Reported}
 use Rattle.report.specs.declared.results.Details.{Details}
 use Rattle.report.specs.declared.results.Stated.{Stated}
 use Rattle.report.specs.declared.results.Turn.{Turn}
 use Rattle.report.specs.declared.results.Turn.the-variants as turn
 use Rattle.report.specs.declared.results.Results.{Results}
-
--- ==== lines by the places of their texts
-
--- a property value stands inside, its parts in order
-abbrev pub Stands : List ℕ → place.Value → Type 0
-Stands s (at.Token a e) = (a < e) × (e ≤ length s)
-Stands s (at.Quoted a e) = (a < e) × (e ≤ length s)
-Stands s (at.Mailbox a m e q) = (a < m) × ((m < e) × (e ≤ length s))
-Stands s (at.AtDomain a e) = (a < e) × (e ≤ length s)
-
--- the last two columns of the line of a property
-abbrev pub valueColumns : Value → List ℕ
-valueColumns v = 9 ∷ (letterOf (v .kind) ++ (9 ∷ (escape (v .text) ++ (10 ∷ []))))
-
-abbrev pub methodText : List ℕ → ℕ → ℕ → ℕ → ℕ → List ℕ
-methodText s a e b f = line (bytes "m" ∷ keywordText (span s a e) ∷ keywordText (span s b f) ∷ [])
-
-abbrev pub reasonText : List ℕ → ℕ → ℕ → Bool → List ℕ
-reasonText s a e q = reasonLine (some (textOf s a e q))
-
-abbrev pub propertyText : List ℕ → ℕ → ℕ → ℕ → ℕ → place.Value → List ℕ
-propertyText s a e b f v = propertyLine (record { ptype = keywordText (span s a e); property = keywordText (span s b f); value = valueOf s v })
 
 -- ==== one result
 

@@ -9,29 +9,23 @@
 //   6  `out` is too short: the bytes needed
 // tried in this order (1, then 7, 8 or 9, then 6 where it would have been 0 or 8). A refusal, any of these but 0 and 8, writes nothing and
 // returns zero counts; bytes past those written stay unchanged.
+use answer_numbers::Number;
 use authserv::Identifier;
 use authserv::Version;
+use body::Reported;
 ghost use mathlib.Core.Path.{_≡_};
 ghost use mathlib.Core.List.{[]};
 ghost use Prim.Native.Nat.{_≤_, _^_};
 ghost use lib.ListN.{length, drop};
-ghost use Rattle.lexis.specs.Limits.{byteLimit};
+ghost use Rattle.lexis_rules.specs.Limits.{byteLimit};
 ghost use Rattle.authserv.specs.Answers.{identifierAt};
-ghost use Rattle.resinfo.specs.Results.{one};
+ghost use Rattle.resinfo_rules.specs.Results.{one};
 ghost use Rattle.body.specs.Body.{wordNone, payload, headed, reading};
 ghost use Rattle.body.specs.Report.{report};
-ghost use Rattle.report.specs.Answers.{answerOf, leaves};
+ghost use Rattle.body.specs.Answers.{answerOf, leaves};
 ghost use Rattle.report.specs.Internal.{succeeds, newerAt, headedAt, Behind, Said};
 
 mod results;
-mod write;
-
-pub struct Reported {
-    pub number: u8,
-    pub place: usize,
-    pub written: usize,
-    pub ignored: usize,
-}
 
 fn refuse(number: u8, place: usize) -> Reported
     ensures { λ r. ⌜ r ≡ record { number = number; place = place; written = 0; ignored = 0 } ⌝ }
@@ -56,7 +50,7 @@ fn says_none(s: &[u8], at: usize) -> bool
     if e == a {
         return false;
     }
-    if lexis::text::same_text(&s[a..e], b"none") {
+    if texts::same_text(&s[a..e], b"none") {
         return lexis::space_end(s, e) >= s.len();
     }
     false
@@ -68,9 +62,9 @@ fn put_payload(s: &[u8], at: usize, out: &mut [u8], to: usize) -> Reported
     ensures { λ r. ⌜ Behind (payload [] (drop at (now (s .entry)))) (now (out .entry)) to (now (out .exit)) r ⌝ }
 {
     if says_none(s, at) {
-        let n = write::put_none(out, to);
+        let n = report_lines::put_none(out, to);
         return Reported {
-            number: 0,
+            number: Number::DONE,
             place: 0,
             written: n,
             ignored: 0,
@@ -78,13 +72,13 @@ fn put_payload(s: &[u8], at: usize, out: &mut [u8], to: usize) -> Reported
     }
     let r = results::put_results(s, at, out, to);
     if r.end == at {
-        return refuse(9, 0);
+        return refuse(Number::MALFORMED, 0);
     }
     if lexis::space_end(s, r.end) < s.len() {
-        return refuse(9, 0);
+        return refuse(Number::MALFORMED, 0);
     }
     Reported {
-        number: 0,
+        number: Number::DONE,
         place: 0,
         written: r.next,
         ignored: r.ignored,
@@ -92,14 +86,14 @@ fn put_payload(s: &[u8], at: usize, out: &mut [u8], to: usize) -> Reported
 }
 
 // The same where it has to be asked first what follows the head.
-fn put_first(s: &[u8], at: usize, out: &mut [u8], to: usize) -> Reported
+fn put_version_one(s: &[u8], at: usize, out: &mut [u8], to: usize) -> Reported
     requires { ⌜ (length (now s) ≤ byteLimit) × (to ≤ 2 ^ 32) ⌝ }
     ensures { λ r. ⌜ Behind (headed (record { identifier = []; version = one }) (drop at (now (s .entry)))) (now (out .entry)) to (now (out .exit)) r ⌝ }
 {
     if authserv::delimited(s, at) {
         return put_payload(s, at, out, to);
     }
-    refuse(9, 0)
+    refuse(Number::MALFORMED, 0)
 }
 
 // The line of a header version other than 1, whose digits stand from a up to e: nothing behind it is read.
@@ -108,15 +102,15 @@ fn put_newer(s: &[u8], a: usize, e: usize, out: &mut [u8], to: usize) -> Reporte
     ensures { λ r. ⌜ Behind (newerAt (now (s .entry)) a e) (now (out .entry)) to (now (out .exit)) r ⌝ }
 {
     if authserv::delimited(s, e) {
-        let n = write::put_version(&s[a..e], out, to);
+        let n = report_lines::put_version(&s[a..e], out, to);
         return Reported {
-            number: 8,
+            number: Number::NEWER,
             place: 0,
             written: n,
             ignored: 0,
         };
     }
-    refuse(9, 0)
+    refuse(Number::MALFORMED, 0)
 }
 
 // Header version and what follows it, behind an identifier that ends at a place.
@@ -127,11 +121,11 @@ fn put_headed(s: &[u8], at: usize, out: &mut [u8], to: usize) -> Reported
     match authserv::version_at(s, at) {
         Version::Stated { start, end, one } => {
             if one {
-                return put_first(s, end, out, to);
+                return put_version_one(s, end, out, to);
             }
             put_newer(s, start, end, out, to)
         }
-        Version::Absent => put_first(s, at, out, to),
+        Version::Absent => put_version_one(s, at, out, to),
     }
 }
 
@@ -141,7 +135,7 @@ fn put_body(s: &[u8], a: usize, e: usize, quoted: bool, out: &mut [u8]) -> Repor
     requires { ⌜ (length (now s) ≤ byteLimit) × (Identifier.Readable a e quoted ≡ identifierAt (now s)) ⌝ }
     ensures { λ r. ⌜ Said (reading (now (s .entry))) (now (out .entry)) (now (out .exit)) r ⌝ }
 {
-    let n = write::put_id(s, a, e, quoted, out);
+    let n = report_lines::put_id(s, a, e, quoted, out);
     put_headed(s, e, out, n)
 }
 
@@ -154,28 +148,29 @@ fn put_measured(s: &[u8], a: usize, e: usize, quoted: bool, out: &mut [u8]) -> R
 {
     let mut scratch = [0u8; 1024];
     let first = put_body(s, a, e, quoted, &mut scratch);
-    if first.number == 9 {
+    if first.number == Number::MALFORMED {
         return first;
     }
     if first.written > out.len() {
-        return refuse(6, first.written);
+        return refuse(Number::TOO_SHORT, first.written);
     }
     if first.written > scratch.len() {
         return put_body(s, a, e, quoted, &mut out[..first.written]);
     }
-    lexis::text::put_text(&scratch[..first.written], out, 0);
+    texts::put_text(&scratch[..first.written], out, 0);
     first
 }
 
+// Reports a body into a lent buffer.
 pub fn report(body: &[u8], out: &mut [u8]) -> Reported
     ensures { λ r. ⌜ r ≡ answerOf (report (now (body .entry)) (length (now (out .entry)))) ⌝ }
     ensures { λ _. ⌜ now (out .exit) ≡ leaves (report (now (body .entry)) (length (now (out .entry)))) (now (out .entry)) ⌝ }
 {
     if lexis::too_long(body) {
-        return refuse(1, 0);
+        return refuse(Number::TOO_LONG, 0);
     }
     let Identifier::Readable { start, end, quoted } = authserv::identify(body) else {
-        return refuse(7, 0);
+        return refuse(Number::UNREADABLE, 0);
     };
     put_measured(body, start, end, quoted, out)
 }

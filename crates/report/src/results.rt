@@ -2,7 +2,6 @@
 // ignored, the next ones are written over them.
 //
 // So where there is more room than the lines that stay take, something of an ignored result may be left past their end.
-use super::write;
 use resinfo::Step;
 use resinfo::parts::Method;
 use resinfo::parts::Reason;
@@ -12,10 +11,10 @@ ghost use mathlib.Core.List.{map};
 ghost use Prim.Native.Nat.{_+_, _≤_, _<_, _^_};
 ghost use lib.ListN.{length};
 ghost use Rattle.reading.specs.Places.{listAt};
-ghost use Rattle.lexis.specs.Limits.{byteLimit};
-ghost use Rattle.lexis.specs.Bytes.{lower};
-ghost use Rattle.resinfo.specs.Results.{reason, property};
-ghost use Rattle.resinfo.specs.Table.{listed, tabled, table, ptypes};
+ghost use Rattle.lexis_rules.specs.Limits.{byteLimit};
+ghost use Rattle.lexis_rules.specs.Bytes.{lower};
+ghost use Rattle.resinfo_rules.specs.Results.{reason, property};
+ghost use Rattle.resinfo_rules.specs.Table.{listed, tabled, table, ptypes};
 ghost use Rattle.body.specs.Body.{resinfo};
 ghost use Rattle.body.specs.Report.{reasonLine, propertyLines, lines};
 ghost use Rattle.report.specs.Internal.{optionAt, detailLines, turnLines, ReasonPut, PropertiesPut, DetailsPut, TurnPut, ResultsPut};
@@ -32,7 +31,7 @@ fn knows_ptype(known: bool, ptype: &[u8]) -> bool
     ensures { λ r. ⌜ r ≡ (known && listed ptypes (map lower (now (ptype .entry)))) ⌝ }
 {
     if known {
-        return resinfo::table::is_ptype(ptype);
+        return methods::is_ptype(ptype);
     }
     false
 }
@@ -42,7 +41,7 @@ fn knows_method(one: bool, method: &[u8], result: &[u8]) -> bool
     ensures { λ r. ⌜ r ≡ (one && tabled table (map lower (now (method .entry))) (map lower (now (result .entry)))) ⌝ }
 {
     if one {
-        return resinfo::table::is_tabled(method, result);
+        return methods::is_tabled(method, result);
     }
     false
 }
@@ -66,7 +65,7 @@ fn put_properties(s: &[u8], at: usize, out: &mut [u8], to: usize) -> Details
                 end,
             } => {
                 known = knows_ptype(known, &s[type_start..type_end]);
-                n = write::put_property(
+                n = report_lines::put_property(
                     s,
                     type_start,
                     type_end,
@@ -109,7 +108,7 @@ fn put_reason(s: &[u8], at: usize, out: &mut [u8], to: usize) -> Stated
 {
     match resinfo::parts::reason_at(s, at) {
         Reason::Stated { start, end, quoted } => {
-            let n = write::put_reason(s, start, end, quoted, out, to);
+            let n = report_lines::put_reason(s, start, end, quoted, out, to);
             Stated { end, next: n }
         }
         Reason::Absent => Stated { end: at, next: to },
@@ -153,7 +152,7 @@ fn put_result(s: &[u8], at: usize, out: &mut [u8], to: usize) -> Turn
             result_end,
         } => {
             let known = knows_method(one, &s[start..end], &s[result_start..result_end]);
-            let n = write::put_method(s, start, end, result_start, result_end, out, to);
+            let n = report_lines::put_method(s, start, end, result_start, result_end, out, to);
             let d = put_details(s, result_end, out, n);
             Turn::Read {
                 end: d.end,

@@ -13,9 +13,8 @@
 // The lines that are expected (the file stdout) were not made by this program. They are the answers of a model of the rules, in another
 // language, which its writers made from document 01 after they had read the definitions that are proved here; each was also held to an
 // answer worked out by hand.
+use body::Reported;
 use libc::STDOUT_FILENO;
-use report::Reported;
-ghost use Prim.Native.Nat.{_≤_, _<_};
 
 // The most bytes of a body that are read.
 const MOST: usize = 65540;
@@ -26,133 +25,33 @@ const MOST_LENT: usize = 200000;
 // The most bytes of a report that are shown.
 const MOST_SHOWN: usize = 256;
 
-// A byte as a wider number.
-fn wide(b: u8) -> u64
-    ensures { λ r. ⌜ r < 256 ⌝ }
-{
-    b as u64
-}
-
-// The Adler-32 sum of the bytes (RFC 1950, 2.2).
-fn adler(s: &[u8]) -> u64 {
-    let mut low: u64 = 1;
-    let mut high: u64 = 0;
-    let mut i: usize = 0;
-    while i < s.len() {
-        low = (low + wide(s[i])) % 65521;
-        high = (high + low) % 65521;
-        i += 1;
-    }
-    high * 65536 + low
-}
-
-// 0 for a byte of 170, 1 for any other.
-fn differs(b: u8) -> usize
-    ensures { λ r. ⌜ r ≤ 1 ⌝ }
-{
-    if b == 170 {
-        return 0;
-    }
-    1
-}
-
-// How many of the bytes are not 170.
-fn changed(s: &[u8]) -> usize {
-    let mut count: usize = 0;
-    let mut i: usize = 0;
-    while i < s.len() {
-        count += differs(s[i]);
-        i += 1;
-    }
-    count
-}
-
-// Whether a byte is shown as itself.
-fn is_shown(b: u8) -> bool {
-    if b == b'%' {
-        return false;
-    }
-    b >= 33 && b <= 126
-}
-
-// Shows a byte.
-fn show_byte(b: u8) {
-    if is_shown(b) {
-        let one = [b; 1];
-        io::write_all(STDOUT_FILENO, &one);
-        return;
-    }
-    io::write_all(STDOUT_FILENO, b"%");
-    io::print_hex(STDOUT_FILENO, wide(b), 2);
-}
-
-// Shows the first bytes.
-fn show(s: &[u8]) {
-    let mut i: usize = 0;
-    while i < s.len() {
-        if i == MOST_SHOWN {
-            return;
-        }
-        show_byte(s[i]);
-        i += 1;
-    }
-}
-
-// A number of bytes to lend, cut to the most.
-fn limited(n: usize) -> usize
-    ensures { λ r. ⌜ r ≤ 200000 ⌝ }
-{
-    if n > MOST_LENT {
-        return MOST_LENT;
-    }
-    n
-}
-
-// What a digit tells.
-fn digit(b: u8) -> usize
-    ensures { λ r. ⌜ r < 256 ⌝ }
-{
-    if b < b'0' {
-        return 0;
-    }
-    (b - b'0') as usize
-}
-
-// The number that decimal digits tell.
-fn number_of(s: &[u8]) -> usize
-    ensures { λ r. ⌜ r ≤ 200000 ⌝ }
-{
-    let mut n: usize = 0;
-    let mut i: usize = 0;
-    while i < s.len() {
-        n = limited(n * 10 + digit(s[i]));
-        i += 1;
-    }
-    n
-}
-
 // Writes a number behind its name.
 fn put_number(label: &[u8], n: u64) {
     io::write_all(STDOUT_FILENO, label);
     io::print_decimal(STDOUT_FILENO, n);
 }
 
+// Shows the first bytes.
+fn put_text(s: &[u8]) {
+    let first = sampling::front(s, MOST_SHOWN);
+    let mut text = [0u8; 3 * MOST_SHOWN];
+    let n = sampling::shown(&s[..first], &mut text);
+    io::write_all(STDOUT_FILENO, b" text [");
+    io::write_all(STDOUT_FILENO, &text[..n]);
+    io::write_all(STDOUT_FILENO, b"]");
+}
+
 // Writes what holds of the lent bytes: the written ones in front, and those past them.
 fn put_bytes(out: &[u8], written: usize) {
-    if written > out.len() {
-        io::write_all(STDOUT_FILENO, b", more written than lent");
-        return;
-    }
-    put_number(b", check ", adler(&out[..written]));
-    put_number(b" changed ", changed(&out[written..]) as u64);
-    io::write_all(STDOUT_FILENO, b" text [");
-    show(&out[..written]);
-    io::write_all(STDOUT_FILENO, b"]");
+    let n = sampling::front(out, written);
+    put_number(b", check ", sampling::adler(&out[..n]));
+    put_number(b" changed ", sampling::changed(&out[n..]) as u64);
+    put_text(&out[..n]);
 }
 
 // Writes the answer.
 fn put_answer(r: Reported) {
-    put_number(b": number ", wide(r.number));
+    put_number(b": number ", r.number as u64);
     put_number(b" place ", r.place as u64);
     put_number(b" written ", r.written as u64);
     put_number(b" ignored ", r.ignored as u64);
@@ -165,21 +64,13 @@ fn report_into(body: &[u8], out: &mut [u8]) {
     put_bytes(out, r.written);
 }
 
-// The same with so many lent bytes, each 170.
-fn report_with(body: &[u8], room: usize)
-    requires { ⌜ room ≤ 200000 ⌝ }
-{
-    let mut out = [170u8; MOST_LENT];
-    report_into(body, &mut out[..room]);
-}
-
-// The same on the file of the body.
-fn run(file: i32, room: usize)
-    requires { ⌜ room ≤ 200000 ⌝ }
-{
+// The same on the file of the body, with so many lent bytes, each 170.
+fn run(file: i32, room: usize) {
     let mut body = [0u8; MOST];
     let n = io::read_full(file, &mut body);
-    report_with(&body[..n], room);
+    let mut out = [170u8; MOST_LENT];
+    let lent = sampling::front(&out, room);
+    report_into(&body[..n], &mut out[..lent]);
 }
 
 // Opens the file that an argument names, and writes the name.
@@ -192,13 +83,11 @@ fn open(argument: usize) -> i32 {
 }
 
 // The number of bytes that an argument tells, which is also written.
-fn room_of(argument: usize) -> usize
-    ensures { λ r. ⌜ r ≤ 200000 ⌝ }
-{
+fn room_of(argument: usize) -> usize {
     let mut text = io::buffer();
     let n = os::arg(argument, &mut text);
     io::write_all(STDOUT_FILENO, &text[..n]);
-    number_of(&text[..n])
+    sampling::number_of(&text[..n], MOST_LENT)
 }
 
 // One case: the number of each of its two arguments.
@@ -214,6 +103,7 @@ fn one_case(body: usize, lent: usize) {
     libc::close(file);
 }
 
+// Runs one case after the other.
 fn main() {
     let n = os::arg_count();
     let mut i: usize = 1;

@@ -9,13 +9,13 @@ use Rattle.reading.specs.Parsers.{Got, nothing, got, Parser, after, _>>=_, give
 use Rattle.reading.specs.Places.{from}
 use Rattle.reading.proofs.Sequencing.{after-zero, after-after, bind-none, bind-is, give-is}
 use Rattle.reading.proofs.Places.{goes-on, stops, gives}
-use Rattle.lexis.specs.Pieces.{space, keyword}
-use Rattle.lexis.specs.Words.{keywordText, gap, readKeyword}
+use Rattle.lexis_rules.specs.Pieces.{space, keyword}
+use Rattle.lexis_rules.specs.Words.{keywordText, gap, readKeyword}
 use Rattle.resinfo.specs.declared.parts.Label.{Label}
 use Rattle.resinfo.specs.declared.parts.Label.the-variants.{Read, Missing}
-use Rattle.resinfo.specs.Results.{Property, mark, propertyValue, property}
+use Rattle.resinfo_rules.specs.Results.{Property, mark, propertyValue, property}
 use Rattle.resinfo.specs.Parts.{marked, behind, Names, names, namesAt, labelAt, labelGot}
-use Rattle.resinfo.specs.Values.{span}
+use Rattle.values.specs.Values.{span}
 use Rattle.resinfo.proofs.Marks.{behind-none, behind-some, through, gap-reads, mark-reads, keyword-reads}
 
 -- ==== by the tests of the code

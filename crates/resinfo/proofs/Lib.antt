@@ -1,16 +1,3 @@
-pub mod Opened
-pub mod Following
-pub mod Values
-pub mod Results
-pub mod ResultExamples
-pub mod Numbered
-pub mod Tabling
-pub mod TableExamples
-pub mod DomainLabels
-pub mod ValueCases
-pub mod ValueGot
-pub mod ValueInside
-pub mod ValueExamples
 pub mod Marks
 pub mod Labels
 pub mod Reasons
@@ -18,3 +5,4 @@ pub mod Methods
 pub mod PartExamples
 pub mod PartPlaces
 pub mod Steps
+pub mod Headlines

@@ -17,11 +17,11 @@ use Rattle.reading.specs.Parsers.{Got, nothing, got, Parser, after, _>>=_, _>>_
 use Rattle.reading.specs.Places.{from}
 use Rattle.reading.proofs.Sequencing.{bind-got, bind-stuck, bind-none, byte-is, byte-not, skipping-is, pass-is, pass-not}
 use Rattle.reading.proofs.Places.{goes-on, stops, gives, text-at, text-none, pass-at, pass-none}
-use Rattle.lexis.specs.Pieces.{space, keyword}
-use Rattle.lexis.specs.Words.{keywordText, skip, gap, readKeyword}
-use Rattle.resinfo.specs.Results.{mark, next}
+use Rattle.lexis_rules.specs.Pieces.{space, keyword}
+use Rattle.lexis_rules.specs.Words.{keywordText, skip, gap, readKeyword}
+use Rattle.resinfo_rules.specs.Results.{mark, next}
 use Rattle.resinfo.specs.Parts.{marked, behind}
-use Rattle.resinfo.specs.Values.{span}
+use Rattle.values.specs.Values.{span}
 
 -- ==== the byte that comes next
 

@@ -18,19 +18,19 @@ use Rattle.reading.specs.Places.{from}
 use Rattle.reading.proofs.Readers.{run-fits}
 use Rattle.reading.proofs.Sequencing.{no-got}
 use Rattle.reading.proofs.Places.{none-at, goes-on, stops, gives, text-at, text-none, one-more, none-there}
-use Rattle.lexis.specs.declared.Digits.{Digits}
-use Rattle.lexis.specs.declared.Class.the-variants.{Digit}
-use Rattle.lexis.specs.Bytes.{inClass}
-use Rattle.lexis.specs.Pieces.{keyword, digits, leading, isOne}
-use Rattle.lexis.specs.Words.{keywordText, counted, readKeyword, readDigits}
-use Rattle.lexis.specs.Answers.{digitsAt}
-use Rattle.lexis.proofs.Numbers.{one-is, counted-text}
+use Rattle.lexis_rules.specs.declared.Digits.{Digits}
+use Rattle.lexis_rules.specs.declared.Class.the-variants.{Digit}
+use Rattle.lexis_rules.specs.Bytes.{inClass}
+use Rattle.lexis_rules.specs.Pieces.{keyword, digits, leading, isOne}
+use Rattle.lexis_rules.specs.Words.{keywordText, counted, readKeyword, readDigits}
+use Rattle.lexis_rules.specs.Answers.{digitsAt}
+use Rattle.lexis_rules.proofs.Numbers.{one-is, counted-text}
 use Rattle.resinfo.specs.declared.parts.MethodVersion.{MethodVersion}
 use Rattle.resinfo.specs.declared.parts.Method.{Method}
 use Rattle.resinfo.specs.declared.parts.Method.the-variants.{Read, Missing}
-use Rattle.resinfo.specs.Results.{Methodspec, mark, orOne, methodVersion, methodspec}
+use Rattle.resinfo_rules.specs.Results.{Methodspec, mark, orOne, methodVersion, methodspec}
 use Rattle.resinfo.specs.Parts.{marked, behind, unversioned, methodVersionAt, resultAt, methodAt, Told, told, methodGot}
-use Rattle.resinfo.specs.Values.{span}
+use Rattle.values.specs.Values.{span}
 use Rattle.resinfo.proofs.Marks.{behind-none, behind-some, through, mark-reads, keyword-reads}
 
 -- ==== the version, by the tests of the code

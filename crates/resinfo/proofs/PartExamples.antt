@@ -7,13 +7,13 @@ use mathlib.Core.List.{List, [], _∷_}
 use Rattle.reading.specs.Texts.{bytes}
 use Rattle.reading.specs.Parsers.{Got, nothing, got}
 use Rattle.reading.proofs.Cases.{Case, case, Says}
-use Rattle.lexis.specs.Answers.{valueAt}
+use Rattle.lexis_rules.specs.Answers.{valueAt}
 use Rattle.resinfo.specs.declared.parts.Method.the-variants as method
 use Rattle.resinfo.specs.declared.parts.Reason.the-variants.{Stated, Absent}
 use Rattle.resinfo.specs.declared.parts.Label.the-variants as label
-use Rattle.resinfo.specs.Results.{methodspec, reason}
+use Rattle.resinfo_rules.specs.Results.{methodspec, reason}
 use Rattle.resinfo.specs.Parts.{marked, behind, methodVersionAt, resultAt, methodAt, Told, told, methodGot, reasonAt, reasonGot, Names, names, namesAt, labelAt, labelGot}
-use Rattle.resinfo.proofs.Opened as definitions
+use Rattle.resinfo_rules.proofs.Opened as definitions
 
 unfoldable pub opened : Unit {0}
 unfolding definitions.opened valueAt marked behind methodVersionAt resultAt methodAt reasonAt names namesAt labelAt

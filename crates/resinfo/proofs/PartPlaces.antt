@@ -5,26 +5,19 @@ use native.Mathlib.Omega.{arith}
 use mathlib.Core.Path.{_≡_, refl, sym, subst}
 use mathlib.Core.Bool.{Bool, true, false}
 use mathlib.Core.List.{List}
-use lib.Dec.{eqb}
-use lib.ListN.{length, getD, drop, length-drop}
+use lib.ListN.{length, drop, length-drop}
 use Rattle.reading.specs.Readers.{Reader}
 use Rattle.reading.specs.Locality.{Fits}
-use Rattle.reading.proofs.Readers.{run-fits}
-use Rattle.lexis.specs.declared.Class.the-variants as class
-use Rattle.lexis.specs.Bytes.{inClass}
-use Rattle.lexis.specs.Pieces.{space, token, quoted, keyword, digits}
-use Rattle.lexis.specs.Answers.{valueAt}
-use Rattle.lexis.proofs.Pieces.{space-fits, quoted-fits, keyword-fits}
-use Rattle.lexis.proofs.Values.{value-unclosed, value-quoted, value-none, value-token}
+use Rattle.lexis_rules.specs.declared.Class.the-variants as class
+use Rattle.lexis_rules.specs.Pieces.{space, keyword, digits}
+use Rattle.lexis_rules.proofs.Pieces.{space-fits, keyword-fits}
 use Rattle.resinfo.specs.declared.parts.MethodVersion.{MethodVersion}
 use Rattle.resinfo.specs.declared.parts.Method.{Method}
 use Rattle.resinfo.specs.declared.parts.Method.the-variants as method
-use Rattle.resinfo.specs.declared.parts.Reason.{Reason}
-use Rattle.resinfo.specs.declared.parts.Reason.the-variants.{Stated, Absent}
 use Rattle.resinfo.specs.declared.parts.Label.{Label}
 use Rattle.resinfo.specs.declared.parts.Label.the-variants as label
-use Rattle.resinfo.specs.Results.{next}
-use Rattle.resinfo.specs.Parts.{marked, reasonWord, behind, unversioned, methodVersionAt, resultAt, methodAt, statedAs, reasonAt, namesAt, labelAt}
+use Rattle.resinfo_rules.specs.Results.{next}
+use Rattle.resinfo.specs.Parts.{marked, behind, unversioned, methodVersionAt, resultAt, methodAt, namesAt, labelAt}
 use Rattle.resinfo.proofs.Marks.{next-inside, marked-yes, marked-no, behind-none, behind-some}
 
 pub marked-fits : (c : ℕ) → Fits (marked c)
@@ -90,48 +83,6 @@ module _ (s : List ℕ) (at : ℕ) where
 
   pub method-places : (a e : ℕ) (o : Bool) (f g : ℕ) → method.Read a e o f g ≡ methodAt s at → MethodPlaces s at a e f g
   method-places a e o f g h = subst (λ (m : Method). MethodStands s at m) (sym h) method-stands
-
--- ==== the reason
-
--- a value from a up to e, found behind a place
-pub record ReasonPlaces (s : List ℕ) (at a e : ℕ) : Type 0 where
-  pub after : at < a
-  pub value : a < e
-  pub inside : e ≤ length s
-
-abbrev ReasonStands : List ℕ → ℕ → Reason → Type 0
-ReasonStands s at (Stated a e q) = ReasonPlaces s at a e
-ReasonStands s at Absent = Unit
-
-module _ (s : List ℕ) (at : ℕ) where
-  value-stands : (v : ℕ) → at < v → ReasonStands s at (statedAs (valueAt s v))
-  value-stands v l = go (eqb (getD (drop v s) 0 0) 34) refl
-    where
-      quote : eqb (getD (drop v s) 0 0) 34 ≡ true → (n : ℕ) → quoted (drop v s) ≡ n → ReasonStands s at (statedAs (valueAt s v))
-      quote t zero z = rw (← value-unclosed s v true (sym t) refl v (omega arith) refl) tt
-      quote t (suc n) z =
-          rw (← value-quoted s v true (sym t) refl (v + suc n) (omega arith) (λ i. omega arith))
-          (record { after = l; value = omega arith; inside = ends-inside quoted quoted-fits s v (v + suc n) (omega arith) (omega arith) })
-
-      bare : eqb (getD (drop v s) 0 0) 34 ≡ false → (n : ℕ) → token (drop v s) ≡ n → ReasonStands s at (statedAs (valueAt s v))
-      bare t zero z = rw (← value-none s v false (sym t) refl v (omega arith) refl) tt
-      bare t (suc n) z =
-          rw (← value-token s v false (sym t) refl (v + suc n) (omega arith) (λ i. omega arith))
-          (record { after = l; value = omega arith; inside = ends-inside token (run-fits (inClass class.Token)) s v (v + suc n) (omega arith) (omega arith) })
-
-      go : (t : Bool) → eqb (getD (drop v s) 0 0) 34 ≡ t → ReasonStands s at (statedAs (valueAt s v))
-      go true t = quote t (quoted (drop v s)) refl
-      go false t = bare t (token (drop v s)) refl
-
-  reason-stands : ReasonStands s at (reasonAt s at)
-  unfolding reasonAt
-  reason-stands =
-      all-behind (ReasonStands s at) space s at Absent _ tt
-      (λ a p m. all-behind (ReasonStands s at) reasonWord s a Absent _ tt
-      (λ e q n. all-behind (ReasonStands s at) (marked 61) s e Absent _ tt (λ v r l. value-stands v (omega arith))))
-
-  pub reason-places : (a e : ℕ) (q : Bool) → Stated a e q ≡ reasonAt s at → ReasonPlaces s at a e
-  reason-places a e q h = subst (λ (m : Reason). ReasonStands s at m) (sym h) reason-stands
 
 -- ==== what stands before a property value
 

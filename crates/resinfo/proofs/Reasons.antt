@@ -10,19 +10,19 @@ use Rattle.reading.specs.Parsers.{Got, nothing, got, when}
 use Rattle.reading.specs.Places.{from}
 use Rattle.reading.proofs.Readers.{passing-yes, passing-no}
 use Rattle.reading.proofs.Places.{goes-on, stops, passes, fails}
-use Rattle.lexis.specs.declared.Value.{Value}
-use Rattle.lexis.specs.declared.Value.the-variants.{Token, Quoted, Nothing}
-use Rattle.lexis.specs.Bytes.{lower, alike}
-use Rattle.lexis.specs.Pieces.{space, keyword}
-use Rattle.lexis.specs.Words.{keywordText, gap, readKeyword, readWord}
-use Rattle.lexis.specs.Answers.{valueAt, valueGot}
-use Rattle.lexis.proofs.Pieces.{keyword-fits}
-use Rattle.lexis.proofs.Values.{value-got}
+use Rattle.lexis_rules.specs.declared.Value.{Value}
+use Rattle.lexis_rules.specs.declared.Value.the-variants.{Token, Quoted, Nothing}
+use Rattle.lexis_rules.specs.Bytes.{lower, alike}
+use Rattle.lexis_rules.specs.Pieces.{space, keyword}
+use Rattle.lexis_rules.specs.Words.{keywordText, gap, readKeyword, readWord}
+use Rattle.lexis_rules.specs.Answers.{valueAt, valueGot}
+use Rattle.lexis_rules.proofs.Pieces.{keyword-fits}
+use Rattle.lexis_rules.proofs.Values.{value-got}
 use Rattle.resinfo.specs.declared.parts.Reason.{Reason}
 use Rattle.resinfo.specs.declared.parts.Reason.the-variants.{Absent}
-use Rattle.resinfo.specs.Results.{mark, reason}
+use Rattle.resinfo_rules.specs.Results.{mark, reason}
 use Rattle.resinfo.specs.Parts.{marked, reasonWord, behind, statedAs, reasonAt, reasonGot}
-use Rattle.resinfo.specs.Values.{span}
+use Rattle.values.specs.Values.{span}
 use Rattle.resinfo.proofs.Marks.{behind-none, behind-some, Reads, through, gap-reads, mark-reads, keyword-reads}
 
 -- ==== the word, by the tests of the code

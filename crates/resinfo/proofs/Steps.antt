@@ -14,20 +14,20 @@ use Rattle.reading.specs.Parsers.{nothing, got}
 use Rattle.reading.specs.Places.{from}
 use Rattle.reading.proofs.Texts.{follows-at, follows-end}
 use Rattle.reading.proofs.Places.{goes-on, stops, gives}
-use Rattle.lexis.specs.Pieces.{space}
-use Rattle.lexis.specs.Words.{keywordText}
+use Rattle.lexis_rules.specs.Pieces.{space}
+use Rattle.lexis_rules.specs.Words.{keywordText}
 use Rattle.resinfo.specs.declared.Step.{Step}
 use Rattle.resinfo.specs.declared.Step.the-variants as step
 use Rattle.resinfo.specs.declared.parts.Label.{Label}
 use Rattle.resinfo.specs.declared.parts.Label.the-variants as label
-use Rattle.resinfo.specs.declared.value.Found.{Found}
-use Rattle.resinfo.specs.declared.value.Found.the-variants as found
-use Rattle.resinfo.specs.Results.{Property, property, propertyValue}
+use Rattle.values.specs.declared.Found.{Found}
+use Rattle.values.specs.declared.Found.the-variants as found
+use Rattle.resinfo_rules.specs.Results.{Property, property, propertyValue}
 use Rattle.resinfo.specs.Parts.{labelAt}
-use Rattle.resinfo.specs.Values.{span, valueOf, valueAt, valueGot}
+use Rattle.values.specs.Values.{span, valueOf, valueAt, valueGot}
 use Rattle.resinfo.specs.Steps.{closes, endOf, propertyOf, stepOf, stepAt, propertyGot}
 use Rattle.resinfo.proofs.Labels.{property-behind, property-not}
-use Rattle.resinfo.proofs.ValueGot.{value-got}
+use Rattle.values.proofs.ValueGot.{value-got}
 
 -- ==== by the tests of the code
 

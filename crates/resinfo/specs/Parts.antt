@@ -8,12 +8,12 @@ use lib.ListN.{drop}
 use Rattle.reading.specs.Texts.{bytes, same}
 use Rattle.reading.specs.Readers.{Reader, passing}
 use Rattle.reading.specs.Parsers.{Got, nothing, got, Parser, _>>=_, _>>_, give}
-use Rattle.lexis.specs.declared.Value.{Value}
-use Rattle.lexis.specs.declared.Value.the-variants.{Token, Quoted, Nothing}
-use Rattle.lexis.specs.Bytes.{alike}
-use Rattle.lexis.specs.Pieces.{space, keyword, digits, isOne}
-use Rattle.lexis.specs.Words.{quotedText, keywordText, gap, readKeyword}
-use Rattle.lexis.specs.Answers.{valueAt}
+use Rattle.lexis_rules.specs.declared.Value.{Value}
+use Rattle.lexis_rules.specs.declared.Value.the-variants.{Token, Quoted, Nothing}
+use Rattle.lexis_rules.specs.Bytes.{alike}
+use Rattle.lexis_rules.specs.Pieces.{space, keyword, digits, isOne}
+use Rattle.lexis_rules.specs.Words.{quotedText, keywordText, gap, readKeyword}
+use Rattle.lexis_rules.specs.Answers.{valueAt}
 use Rattle.resinfo.specs.declared.parts.MethodVersion.{MethodVersion}
 use Rattle.resinfo.specs.declared.parts.Method.{Method}
 use Rattle.resinfo.specs.declared.parts.Method.the-variants as method
@@ -21,8 +21,8 @@ use Rattle.resinfo.specs.declared.parts.Reason.{Reason}
 use Rattle.resinfo.specs.declared.parts.Reason.the-variants.{Stated, Absent}
 use Rattle.resinfo.specs.declared.parts.Label.{Label}
 use Rattle.resinfo.specs.declared.parts.Label.the-variants as label
-use Rattle.resinfo.specs.Results.{Methodspec, mark, next}
-use Rattle.resinfo.specs.Values.{span}
+use Rattle.resinfo_rules.specs.Results.{Methodspec, mark, next}
+use Rattle.values.specs.Values.{span}
 
 -- ==== readers
 

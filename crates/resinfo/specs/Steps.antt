@@ -7,17 +7,17 @@ use lib.Dec.{eqb}
 use lib.ListN.{drop}
 use Rattle.reading.specs.Texts.{follows}
 use Rattle.reading.specs.Parsers.{Got, nothing, got}
-use Rattle.lexis.specs.Pieces.{space}
-use Rattle.lexis.specs.Words.{keywordText}
+use Rattle.lexis_rules.specs.Pieces.{space}
+use Rattle.lexis_rules.specs.Words.{keywordText}
 use Rattle.resinfo.specs.declared.Step.{Step}
 use Rattle.resinfo.specs.declared.Step.the-variants as step
 use Rattle.resinfo.specs.declared.parts.Label.{Label}
 use Rattle.resinfo.specs.declared.parts.Label.the-variants as label
-use Rattle.resinfo.specs.declared.value.Found.{Found}
-use Rattle.resinfo.specs.declared.value.Found.the-variants as found
-use Rattle.resinfo.specs.Results.{Property}
+use Rattle.values.specs.declared.Found.{Found}
+use Rattle.values.specs.declared.Found.the-variants as found
+use Rattle.resinfo_rules.specs.Results.{Property}
 use Rattle.resinfo.specs.Parts.{labelAt}
-use Rattle.resinfo.specs.Values.{span, valueOf, valueAt}
+use Rattle.values.specs.Values.{span, valueOf, valueAt}
 
 -- after the longest space, ";" or the end comes next
 unfoldable pub closes : List ℕ → Bool

@@ -1,15 +1,13 @@
 // One result of a field body (RFC 8601: resinfo): its grammar and its abstract syntax (specs/); its parts, property values and steps, read
 // at places; and the table of methods.
 use parts::Label;
-use value::Found;
-use value::Value;
+use values::Found;
+use values::Value;
 ghost use mathlib.Core.Path.{_≡_};
 ghost use lib.ListN.{drop};
 ghost use Rattle.resinfo.specs.Steps.{closes, endOf, propertyOf, stepAt};
 
 pub mod parts;
-pub mod table;
-pub mod value;
 
 // What stands behind a method, a reason or a property: a property, by the places of its names, its value and the place after it; the end of
 // the result, where ";" or the end of the body comes after the longest space; or neither, and the body is not well-formed (number 9).
@@ -77,7 +75,7 @@ pub fn step_at(s: &[u8], at: usize) -> Step
             type_end,
             name_start,
             name_end,
-            value::value_at(s, value),
+            values::value_at(s, value),
         ),
         Label::Missing => end_of(is_closed(s, at)),
     }

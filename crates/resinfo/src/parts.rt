@@ -2,11 +2,11 @@
 // result, a reason, and what stands before a property value.
 //
 // Any place may be asked for, also past the end. Nothing is refused here: what it means that a part is missing is the caller's to say.
-use lexis::Value;
+use lexis_rules::Value;
 ghost use mathlib.Core.Path.{_≡_};
 ghost use Prim.Native.Nat.{_+_};
 ghost use lib.ListN.{drop};
-ghost use Rattle.resinfo.specs.Results.{next};
+ghost use Rattle.resinfo_rules.specs.Results.{next};
 ghost use Rattle.resinfo.specs.Parts.{marked, reasonWord, methodVersionAt, methodAt, statedAs, reasonAt, labelAt};
 
 // Whether a byte comes next. At the end none does.
@@ -110,7 +110,7 @@ fn reason_word_end(s: &[u8], at: usize) -> usize
     if e == at {
         return at;
     }
-    if lexis::text::same_text(&s[at..e], b"reason") {
+    if texts::same_text(&s[at..e], b"reason") {
         return e;
     }
     at

@@ -1,5 +1,5 @@
 -- Text stored in a lent buffer. Assumes nothing: these are definitions.
-use Prim.Native.Nat.{ℕ, _+_}
+use Prim.Native.Nat.{ℕ, _+_, min}
 use mathlib.Core.Path.{_≡_}
 use mathlib.Core.List.{List}
 use lib.ListN.{length}
@@ -14,4 +14,13 @@ pub record Wrote (old : List ℕ) (at : ℕ) (text new : List ℕ) (next : ℕ) 
 -- the same for a function that returns the length of the whole text, which no place can make overflow
 pub record Put (old : List ℕ) (at : ℕ) (text new : List ℕ) (size : ℕ) : Type 0 where
   pub count : size ≡ length text
+  pub bytes : new ≡ sets old at text
+
+-- the largest place that a number of the machine can be: no buffer reaches it
+abbrev pub cap : ℕ
+cap = 18446744073709551615
+
+-- the same for a function that returns the place after the whole text, which stops at the largest place
+pub record Clipped (old : List ℕ) (at : ℕ) (text new : List ℕ) (next : ℕ) : Type 0 where
+  pub place : next ≡ min (at + length text) cap
   pub bytes : new ≡ sets old at text

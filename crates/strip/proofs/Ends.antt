@@ -11,34 +11,23 @@ use lib.Seq.{sets}
 use Rattle.sequences.specs.Stored.{Put}
 use Rattle.sequences.proofs.Splices.{wrote-count, wrote-front, put-front}
 use Rattle.reading.specs.Walks.{Walked, walk}
-use Rattle.lexis.specs.Limits.{byteLimit}
-use Rattle.block.specs.declared.Checked.the-variants.{Good, Bad}
-use Rattle.block.specs.Fields.{Field, fields, bytesOf}
-use Rattle.block.specs.OwnList.{entryLimit, entry, entryAt, ownList}
-use Rattle.block.specs.Steps.{checkedOf}
-use Rattle.block.proofs.Fields.{fields-fine, walk-back}
+use Rattle.lexis_rules.specs.Limits.{byteLimit}
+use Rattle.ownlist.specs.declared.entries.Checked.the-variants.{Good, Bad}
+use Rattle.block_rules.specs.Fields.{Field, fields, bytesOf}
+use Rattle.authserv_rules.specs.OwnList.{ownList}
+use Rattle.authserv_rules.proofs.Entries.{list-five}
+use Rattle.ownlist.specs.Steps.{checkedOf}
+use Rattle.block_rules.proofs.Fields.{fields-fine, walk-back}
 use Rattle.punycode_rules.specs.Labels.{doubleHyphen}
-use Rattle.authserv.specs.Spelled.{spelledList, linesOf, amongSpelled}
-use Rattle.authserv.proofs.OwnLists.{list-among}
-use Rattle.authserv.proofs.Headlines.{list-plain}
-use Rattle.strip.specs.declared.Stripped.{Stripped}
-use Rattle.strip.specs.Strip.{Answer, refuse, gone, stays, done, fitted, unless, sifted, strip}
-use Rattle.strip.specs.Answers.{Sifted, answerOf, leaves}
-use Rattle.strip.proofs.Laws.{Listed}
-use Rattle.strip.proofs.Alike.{same-sifted}
-
--- the list's answer is 0 or 5
-walk-five : (at count k : ℕ) (xs : List ℕ) (n : ℕ) → walk entryAt at count k xs .number ≡ suc n → suc n ≡ 5
-unfolding walk entryAt
-walk-five at count zero [] n e = absurd (omega arith)
-walk-five at count (suc k) [] n e = absurd (omega arith)
-walk-five at count (suc k) (x ∷ xs) n e = walk-five (suc at) count k xs n e
-walk-five at count zero (x ∷ xs) n e = go (λ k. walk-five (suc at) (suc count) k xs n) (entry (x ∷ xs)) (leb entryLimit count) refl refl
-  where
-    go : ((k : ℕ) → walk entryAt (suc at) (suc count) k xs .number ≡ suc n → suc n ≡ 5) → (m : ℕ) (t : Bool) → entry (x ∷ xs) ≡ m → leb entryLimit count ≡ t → suc n ≡ 5
-    go ih zero t p l = sym (rw (walk, entryAt, p) at e)
-    go ih (suc m) true p l = sym (rw (walk, entryAt, p, l) at e)
-    go ih (suc m) false p l = ih (suc m - 1) (rw (walk, entryAt, p, l) at e)
+use Rattle.authserv_rules.specs.Spelled.{spelledList, linesOf, amongSpelled}
+use Rattle.authserv_rules.proofs.OwnLists.{list-among}
+use Rattle.authserv_rules.proofs.Headlines.{list-plain}
+use Rattle.strip_rules.specs.declared.Stripped.{Stripped}
+use Rattle.strip_rules.specs.Strip.{Answer, refuse, removedOf, keptOf, done, fitted, orRefusal, stripFields, strip}
+use Rattle.strip.specs.Internal.{Sifted}
+use Rattle.strip_rules.specs.Answers.{answerOf, leaves}
+use Rattle.strip_rules.proofs.Laws.{Listed}
+use Rattle.strip_rules.proofs.Alike.{same-sifted}
 
 module _ (list : List ℕ) where
   good-zero : Good ≡ checkedOf (ownList list) → ownList list .number ≡ 0
@@ -53,7 +42,7 @@ module _ (list : List ℕ) where
     where
       go : (n : ℕ) → ownList list .number ≡ n → (ownList list .number ≡ 5) × (ownList list .place ≡ p)
       go zero q = absurd (let h : Bad p ≡ Good = rw (checkedOf, q) at e in let z : _≡_ {A = ℕ} 0 1 = cc in omega arith)
-      go (suc n) q = (q ∙ walk-five 0 0 0 list n q, (let h : Bad p ≡ Bad (ownList list .place) = rw (checkedOf, q) at e in cc))
+      go (suc n) q = (q ∙ list-five list n q, (let h : Bad p ≡ Bad (ownList list .place) = rw (checkedOf, q) at e in cc))
 
 fields-place : (s : List ℕ) → fields s .number ≡ 0 → fields s .place ≡ 0
 fields-place s z =
@@ -65,7 +54,7 @@ fields-place s z =
 pub copied : (s : List ℕ) (listed : List ℕ → Bool) (old first new : List ℕ) (m : Stripped) → Sifted s listed first new m → m .kept ≤ length first → (out : List ℕ) (n : ℕ)
     → Put old 0 (take (m .kept) new) out n → Sifted s listed old out m
 copied s listed old first new m k h out n p =
-    let text = bytesOf (stays listed (fields s .items)) in
+    let text = bytesOf (keptOf listed (fields s .items)) in
     let t : take (m .kept) new ≡ text = put-front {old = first} {text = text} (record { count = wrote-count (k .wrote); bytes = k .wrote .bytes }) h in
     record {
       number = k .number;
@@ -86,35 +75,35 @@ refused a old r n p e q = (rw q e, rw q)
 
 module _ (s : List ℕ) (listed : List ℕ → Bool) (old : List ℕ) (r m : Stripped) (first new : List ℕ) (k : Sifted s listed first new m) where
   pub answer-2-4 : (m .number ≡ 0 → ⊥) → r ≡ record { number = m .number; place = m .place; kept = 0; removed = 0; fields = 0 }
-      → Answered (sifted s listed (length old)) old old r
-  unfolding sifted
+      → Answered (stripFields s listed (length old)) old old r
+  unfolding stripFields
   answer-2-4 ne e = go (m .number) refl
     where
-      go : (n : ℕ) → m .number ≡ n → Answered (sifted s listed (length old)) old old r
+      go : (n : ℕ) → m .number ≡ n → Answered (stripFields s listed (length old)) old old r
       go zero z = absurd (ne z)
       go (suc n) z =
           let f : fields s .number ≡ suc n = sym (k .number) ∙ z in
-          refused (sifted s listed (length old)) old r (m .number) (m .place) e (rw (sifted, unless, f, z, k .place))
+          refused (stripFields s listed (length old)) old r (m .number) (m .place) e (rw (stripFields, orRefusal, f, z, k .place))
 
   module _ (z : m .number ≡ 0) where
     sound : fields s .number ≡ 0
     sound = sym (k .number) ∙ z
 
-    needed : m .kept ≡ length (bytesOf (stays listed (fields s .items)))
+    needed : m .kept ≡ length (bytesOf (keptOf listed (fields s .items)))
     needed = wrote-count (k .wrote)
 
-    pub answer-6 : length old < m .kept → r ≡ record { number = 6; place = m .kept; kept = 0; removed = 0; fields = 0 } → Answered (sifted s listed (length old)) old old r
-    unfolding sifted fitted
+    pub answer-6 : length old < m .kept → r ≡ record { number = 6; place = m .kept; kept = 0; removed = 0; fields = 0 } → Answered (stripFields s listed (length old)) old old r
+    unfolding stripFields fitted
     answer-6 l e =
-        let t : ltb (length old) (length (bytesOf (stays listed (fields s .items)))) ≡ true = lt-ltb _ _ (rw needed at l) in
-        refused (sifted s listed (length old)) old r 6 (m .kept) e (rw (sifted, unless, sound, fitted, t, needed))
+        let t : ltb (length old) (length (bytesOf (keptOf listed (fields s .items)))) ≡ true = lt-ltb _ _ (rw needed at l) in
+        refused (stripFields s listed (length old)) old r 6 (m .kept) e (rw (stripFields, orRefusal, sound, fitted, t, needed))
 
-    pub answer-0 : m .kept ≤ length old → (out : List ℕ) → Sifted s listed old out r → Answered (sifted s listed (length old)) old out r
-    unfolding sifted fitted
+    pub answer-0 : m .kept ≤ length old → (out : List ℕ) → Sifted s listed old out r → Answered (stripFields s listed (length old)) old out r
+    unfolding stripFields fitted
     answer-0 l out d =
-        let fits : length (bytesOf (stays listed (fields s .items))) ≤ length old = rw needed at l in
-        let t : ltb (length old) (length (bytesOf (stays listed (fields s .items)))) ≡ false = le-ltb _ _ fits in
-        let is : sifted s listed (length old) ≡ done (stays listed (fields s .items)) (gone listed (fields s .items)) = rw (sifted, unless, sound, fitted, t) in
+        let fits : length (bytesOf (keptOf listed (fields s .items))) ≤ length old = rw needed at l in
+        let t : ltb (length old) (length (bytesOf (keptOf listed (fields s .items)))) ≡ false = le-ltb _ _ fits in
+        let is : stripFields s listed (length old) ≡ done (keptOf listed (fields s .items)) (removedOf listed (fields s .items)) = rw (stripFields, orRefusal, sound, fitted, t) in
         (rw is (same r _ _ _ _ _ (d .number ∙ sound) (d .place ∙ fields-place s sound) (wrote-count (d .wrote)) (d .removed) (d .fields)), rw is (wrote-front (d .wrote) fits))
       where
         same : (r : Stripped) (n p k q f : ℕ) → r .number ≡ n → r .place ≡ p → r .kept ≡ k → r .removed ≡ q → r .fields ≡ f
@@ -123,10 +112,10 @@ module _ (s : List ℕ) (listed : List ℕ → Bool) (old : List ℕ) (r m : Str
 
 -- by the list as it was spelled into a buffer
 pub answer-spelled : (s list old new : List ℕ) (r : Stripped) (first own : List ℕ) (n : ℕ) → Put first 0 (spelledList (ownList list .items)) own n → n ≤ length first
-    → Answered (sifted s (amongSpelled (linesOf (take n own))) (length old)) old new r → Answered (sifted s (Listed list) (length old)) old new r
+    → Answered (stripFields s (amongSpelled (linesOf (take n own))) (length old)) old new r → Answered (stripFields s (Listed list) (length old)) old new r
 answer-spelled s list old new r first own n w h a =
     let f : take n own ≡ spelledList (ownList list .items) = put-front w h in
-    let e : sifted s (amongSpelled (linesOf (take n own))) (length old) ≡ sifted s (Listed list) (length old) =
+    let e : stripFields s (amongSpelled (linesOf (take n own))) (length old) ≡ stripFields s (Listed list) (length old) =
     rw f (same-sifted (amongSpelled (linesOf (spelledList (ownList list .items)))) (Listed list) (list-among list) s (length old)) in
     (a .0 ∙ ap answerOf e, a .1 ∙ ap (λ (x : Answer). leaves x old) e)
 
@@ -146,21 +135,21 @@ module _ (s list old : List ℕ) (r : Stripped) (big : Bool) (b : big ≡ ltb by
     unfolding strip
     answer-5 p q e =
         let f = bad-five list p q in
-        refused (strip s list (length old)) old r 5 p e (rw (strip, small, unless, f .0, f .1))
+        refused (strip s list (length old)) old r 5 p e (rw (strip, small, orRefusal, f .0, f .1))
 
     module _ (g : Good ≡ checkedOf (ownList list)) (new : List ℕ) where
-      behind : strip s list (length old) ≡ sifted s (Listed list) (length old)
+      behind : strip s list (length old) ≡ stripFields s (Listed list) (length old)
       unfolding strip
-      behind = rw (strip, small, unless, good-zero list g)
+      behind = rw (strip, small, orRefusal, good-zero list g)
 
-      pub answer-listed : Answered (sifted s (Listed list) (length old)) old new r → Answered (strip s list (length old)) old new r
+      pub answer-listed : Answered (stripFields s (Listed list) (length old)) old new r → Answered (strip s list (length old)) old new r
       answer-listed a = (rw behind (a .0), rw behind (a .1))
 
       -- a list without two hyphens in a row is compared as it stands
-      pub answer-plain : (t : Bool) → t ≡ doubleHyphen list → t ≡ false → Answered (sifted s (amongSpelled (linesOf list)) (length old)) old new r
+      pub answer-plain : (t : Bool) → t ≡ doubleHyphen list → t ≡ false → Answered (stripFields s (amongSpelled (linesOf list)) (length old)) old new r
           → Answered (strip s list (length old)) old new r
       answer-plain t e z a =
           let l : spelledList (ownList list .items) ≡ list = list-plain list (good-zero list g) (sym e ∙ z) in
-          let q : sifted s (amongSpelled (linesOf list)) (length old) ≡ sifted s (Listed list) (length old) =
+          let q : stripFields s (amongSpelled (linesOf list)) (length old) ≡ stripFields s (Listed list) (length old) =
           same-sifted (amongSpelled (linesOf list)) (Listed list) (λ i. rw l at (list-among list i)) s (length old) in
           answer-listed (a .0 ∙ ap answerOf q, a .1 ∙ ap (λ (x : Answer). leaves x old) q)

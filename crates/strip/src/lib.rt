@@ -10,28 +10,23 @@
 //   4  a 513th field: its start
 //   6  `out` is too short: the bytes needed
 // tried in this order. A refusal writes nothing and returns zero counts; bytes past those written stay unchanged.
-use authserv::own::Own;
-use block::Checked;
+use answer_numbers::Number;
+use authserv_rules::Own;
 use block::Next;
 use block::Walk;
+use ownlist::entries::Checked;
+use strip_rules::Stripped;
 ghost use mathlib.Core.Path.{_≡_};
 ghost use mathlib.Core.Bool.{_&&_};
 ghost use lib.ListN.{length};
 ghost use Rattle.reading.specs.Texts.{bytes};
-ghost use Rattle.lexis.specs.Bytes.{alike};
-ghost use Rattle.block.specs.OwnList.{ownList};
-ghost use Rattle.authserv.specs.Listed.{among};
-ghost use Rattle.authserv.specs.Spelled.{linesOf, amongSpelled};
-ghost use Rattle.strip.specs.Strip.{disowned, sifted, strip};
-ghost use Rattle.strip.specs.Answers.{answerOf, leaves, isDisowned, Sifted};
-
-pub struct Stripped {
-    pub number: u8,
-    pub place: usize,
-    pub kept: usize,
-    pub removed: usize,
-    pub fields: usize,
-}
+ghost use Rattle.lexis_rules.specs.Bytes.{alike};
+ghost use Rattle.authserv_rules.specs.OwnList.{ownList};
+ghost use Rattle.authserv_rules.specs.Listed.{among};
+ghost use Rattle.authserv_rules.specs.Spelled.{linesOf, amongSpelled};
+ghost use Rattle.strip_rules.specs.Strip.{oursOrUnreadable, stripFields, strip};
+ghost use Rattle.strip_rules.specs.Answers.{answerOf, leaves};
+ghost use Rattle.strip.specs.Internal.{isDisowned, Sifted};
 
 fn disowns(o: Own) -> bool
     ensures { λ r. ⌜ r ≡ isDisowned o ⌝ }
@@ -45,23 +40,23 @@ fn disowns(o: Own) -> bool
 
 // Whether the identifier of a body is unreadable or is spelled as a line of our own list.
 fn is_disowned(own: &[u8], body: &[u8]) -> bool
-    ensures { λ r. ⌜ r ≡ disowned (amongSpelled (linesOf (now (own .entry)))) (now (body .entry)) ⌝ }
+    ensures { λ r. ⌜ r ≡ oursOrUnreadable (amongSpelled (linesOf (now (own .entry)))) (now (body .entry)) ⌝ }
 {
-    disowns(authserv::own::whose_spelled(own, body))
+    disowns(ownlist::whose_spelled(own, body))
 }
 
 // Whether a field with this name and this body is removed.
 fn is_removed(own: &[u8], name: &[u8], body: &[u8]) -> bool
-    ensures { λ r. ⌜ r ≡ (alike (now (name .entry)) (bytes "Authentication-Results") && disowned (amongSpelled (linesOf (now (own .entry)))) (now (body .entry))) ⌝ }
+    ensures { λ r. ⌜ r ≡ (alike (now (name .entry)) (bytes "Authentication-Results") && oursOrUnreadable (amongSpelled (linesOf (now (own .entry)))) (now (body .entry))) ⌝ }
 {
-    if lexis::text::same_text(name, b"Authentication-Results") {
+    if texts::same_text(name, b"Authentication-Results") {
         return is_disowned(own, body);
     }
     false
 }
 
 // Writes the kept fields over the front of `out`, as far as that reaches, up to the first refusal.
-fn sift(s: &[u8], own: &[u8], out: &mut [u8]) -> Stripped
+fn put_kept(s: &[u8], own: &[u8], out: &mut [u8]) -> Stripped
     ensures { λ r. ⌜ Sifted (now (s .entry)) (amongSpelled (linesOf (now (own .entry)))) (now (out .entry)) (now (out .exit)) r ⌝ }
 {
     let fresh = Walk::fresh();
@@ -84,14 +79,14 @@ fn sift(s: &[u8], own: &[u8], out: &mut [u8]) -> Stripped
                     at = end;
                     count += 1;
                 } else {
-                    kept += lexis::text::put_text(&s[start..end], out, kept);
+                    kept += texts::put_text(&s[start..end], out, kept);
                     at = end;
                     count += 1;
                 }
             }
             Next::End => {
                 return Stripped {
-                    number: 0,
+                    number: Number::DONE,
                     place: 0,
                     kept,
                     removed,
@@ -126,31 +121,31 @@ fn refuse(number: u8, place: usize) -> Stripped
 // Strips by our own list as it is compared. The first pass goes to a buffer of its own, as far as that reaches: nothing is written to `out`
 // before it is known that all of it fits. Where it all went there it is copied; else a second pass writes it.
 fn strip_by(s: &[u8], own: &[u8], out: &mut [u8]) -> Stripped
-    ensures { λ r. ⌜ r ≡ answerOf (sifted (now (s .entry)) (amongSpelled (linesOf (now (own .entry)))) (length (now (out .entry)))) ⌝ }
-    ensures { λ _. ⌜ now (out .exit) ≡ leaves (sifted (now (s .entry)) (amongSpelled (linesOf (now (own .entry)))) (length (now (out .entry)))) (now (out .entry)) ⌝ }
+    ensures { λ r. ⌜ r ≡ answerOf (stripFields (now (s .entry)) (amongSpelled (linesOf (now (own .entry)))) (length (now (out .entry)))) ⌝ }
+    ensures { λ _. ⌜ now (out .exit) ≡ leaves (stripFields (now (s .entry)) (amongSpelled (linesOf (now (own .entry)))) (length (now (out .entry)))) (now (out .entry)) ⌝ }
 {
     let mut first = [0u8; 8192];
-    let sums = sift(s, own, &mut first);
-    if sums.number != 0 {
+    let sums = put_kept(s, own, &mut first);
+    if sums.number != Number::DONE {
         return refuse(sums.number, sums.place);
     }
     if sums.kept > out.len() {
-        return refuse(6, sums.kept);
+        return refuse(Number::TOO_SHORT, sums.kept);
     }
     if sums.kept > first.len() {
-        return sift(s, own, out);
+        return put_kept(s, own, out);
     }
-    lexis::text::put_text(&first[..sums.kept], out, 0);
+    texts::put_text(&first[..sums.kept], out, 0);
     sums
 }
 
 // Strips by a list that has to be spelled first.
 fn strip_spelled(s: &[u8], list: &[u8], out: &mut [u8]) -> Stripped
-    ensures { λ r. ⌜ r ≡ answerOf (sifted (now (s .entry)) (among (ownList (now (list .entry)) .items)) (length (now (out .entry)))) ⌝ }
-    ensures { λ _. ⌜ now (out .exit) ≡ leaves (sifted (now (s .entry)) (among (ownList (now (list .entry)) .items)) (length (now (out .entry)))) (now (out .entry)) ⌝ }
+    ensures { λ r. ⌜ r ≡ answerOf (stripFields (now (s .entry)) (among (ownList (now (list .entry)) .items)) (length (now (out .entry)))) ⌝ }
+    ensures { λ _. ⌜ now (out .exit) ≡ leaves (stripFields (now (s .entry)) (among (ownList (now (list .entry)) .items)) (length (now (out .entry)))) (now (out .entry)) ⌝ }
 {
-    let mut own = [0u8; authserv::own::SPELLED];
-    let n = authserv::own::spell_list(list, &mut own);
+    let mut own = [0u8; ownlist::SPELLED];
+    let n = ownlist::spell_list(list, &mut own);
     strip_by(s, &own[..n], out)
 }
 
@@ -160,15 +155,15 @@ pub fn strip(s: &[u8], list: &[u8], out: &mut [u8]) -> Stripped
     ensures { λ _. ⌜ now (out .exit) ≡ leaves (strip (now (s .entry)) (now (list .entry)) (length (now (out .entry)))) (now (out .entry)) ⌝ }
 {
     if lexis::too_long(s) {
-        return refuse(1, 0);
+        return refuse(Number::TOO_LONG, 0);
     }
-    match block::check_list(list) {
+    match ownlist::entries::check_list(list) {
         Checked::Bad { place } => {
-            return refuse(5, place);
+            return refuse(Number::BAD_LIST, place);
         }
         Checked::Good => {}
     }
-    if punycode::has_double_hyphen(list) {
+    if hyphens::has_double_hyphen(list) {
         return strip_spelled(s, list, out);
     }
     strip_by(s, list, out)

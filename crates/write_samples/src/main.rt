@@ -14,10 +14,9 @@
 //
 // The lines that are expected (the file stdout) were not made by this program: they are the answers of a model of the ticket's rules in
 // another language.
+use body::Reported;
+use compose::Written;
 use libc::STDOUT_FILENO;
-use report::Reported;
-use writing::Written;
-ghost use Prim.Native.Nat.{_≤_, _<_};
 
 // The most bytes of lines that are read, and the most that a report of a body may need here.
 const MOST: usize = 210000;
@@ -28,166 +27,50 @@ const MOST_LENT: usize = 66000;
 // The most bytes of a body that are shown.
 const MOST_SHOWN: usize = 256;
 
-// A byte as a wider number.
-fn wide(b: u8) -> u64
-    ensures { λ r. ⌜ r < 256 ⌝ }
-{
-    b as u64
-}
-
-// The Adler-32 sum of the bytes (RFC 1950, 2.2).
-fn adler(s: &[u8]) -> u64 {
-    let mut low: u64 = 1;
-    let mut high: u64 = 0;
-    let mut i: usize = 0;
-    while i < s.len() {
-        low = (low + wide(s[i])) % 65521;
-        high = (high + low) % 65521;
-        i += 1;
-    }
-    high * 65536 + low
-}
-
-// 0 for a byte of 170, 1 for any other.
-fn differs(b: u8) -> usize
-    ensures { λ r. ⌜ r ≤ 1 ⌝ }
-{
-    if b == 170 {
-        return 0;
-    }
-    1
-}
-
-// How many of the bytes are not 170.
-fn changed(s: &[u8]) -> usize {
-    let mut count: usize = 0;
-    let mut i: usize = 0;
-    while i < s.len() {
-        count += differs(s[i]);
-        i += 1;
-    }
-    count
-}
-
-// Whether a byte is shown as itself.
-fn is_shown(b: u8) -> bool {
-    if b == b'%' {
-        return false;
-    }
-    b >= 33 && b <= 126
-}
-
-// Shows a byte.
-fn show_byte(b: u8) {
-    if is_shown(b) {
-        let one = [b; 1];
-        io::write_all(STDOUT_FILENO, &one);
-        return;
-    }
-    io::write_all(STDOUT_FILENO, b"%");
-    io::print_hex(STDOUT_FILENO, wide(b), 2);
-}
-
-// Shows the first bytes.
-fn show(s: &[u8]) {
-    let mut i: usize = 0;
-    while i < s.len() {
-        if i == MOST_SHOWN {
-            return;
-        }
-        show_byte(s[i]);
-        i += 1;
-    }
-}
-
-// A number of bytes to lend, cut to the most.
-fn limited(n: usize) -> usize
-    ensures { λ r. ⌜ r ≤ 66000 ⌝ }
-{
-    if n > MOST_LENT {
-        return MOST_LENT;
-    }
-    n
-}
-
-// What a digit tells.
-fn digit(b: u8) -> usize
-    ensures { λ r. ⌜ r < 256 ⌝ }
-{
-    if b < b'0' {
-        return 0;
-    }
-    (b - b'0') as usize
-}
-
-// The number that decimal digits tell.
-fn number_of(s: &[u8]) -> usize
-    ensures { λ r. ⌜ r ≤ 66000 ⌝ }
-{
-    let mut n: usize = 0;
-    let mut i: usize = 0;
-    while i < s.len() {
-        n = limited(n * 10 + digit(s[i]));
-        i += 1;
-    }
-    n
-}
-
 // Writes a number behind its name.
 fn put_number(label: &[u8], n: u64) {
     io::write_all(STDOUT_FILENO, label);
     io::print_decimal(STDOUT_FILENO, n);
 }
 
-// Writes what holds of the lent bytes: the written ones in front, and those past them.
-fn put_bytes(out: &[u8], written: usize) {
-    if written > out.len() {
-        io::write_all(STDOUT_FILENO, b", more written than lent");
-        return;
-    }
-    put_number(b", check ", adler(&out[..written]));
-    put_number(b" changed ", changed(&out[written..]) as u64);
+// Shows the first bytes.
+fn put_text(s: &[u8]) {
+    let first = sampling::front(s, MOST_SHOWN);
+    let mut text = [0u8; 3 * MOST_SHOWN];
+    let n = sampling::shown(&s[..first], &mut text);
     io::write_all(STDOUT_FILENO, b" text [");
-    show(&out[..written]);
+    io::write_all(STDOUT_FILENO, &text[..n]);
     io::write_all(STDOUT_FILENO, b"]");
 }
 
-// Whether two runs of bytes are the same.
-fn is_same(a: &[u8], b: &[u8]) -> bool {
-    if a.len() != b.len() {
-        return false;
-    }
-    let mut i: usize = 0;
-    while i < a.len() {
-        if a[i] != b[i] {
-            return false;
-        }
-        i += 1;
-    }
-    true
+// Writes what holds of the lent bytes: the written ones in front, and those past them.
+fn put_bytes(out: &[u8], written: usize) {
+    let n = sampling::front(out, written);
+    put_number(b", check ", sampling::adler(&out[..n]));
+    put_number(b" changed ", sampling::changed(&out[n..]) as u64);
+    put_text(&out[..n]);
 }
 
 // Writes the answer.
 fn put_answer(r: Written) {
-    put_number(b": number ", wide(r.number));
+    put_number(b": number ", r.number as u64);
     put_number(b" place ", r.place as u64);
     put_number(b" written ", r.written as u64);
 }
 
 // Writes whether a report of so many bytes is the lines.
 fn put_same(lines: &[u8], reported: &[u8], count: usize) {
-    if count <= reported.len() {
-        if is_same(lines, &reported[..count]) {
-            io::write_all(STDOUT_FILENO, b" same");
-            return;
-        }
+    let n = sampling::front(reported, count);
+    if sampling::is_same(lines, &reported[..n]) {
+        io::write_all(STDOUT_FILENO, b" same");
+        return;
     }
     io::write_all(STDOUT_FILENO, b" differs");
 }
 
 // Writes the answer of the report.
 fn put_report(r: Reported) {
-    put_number(b" read back number ", wide(r.number));
+    put_number(b" read back number ", r.number as u64);
     put_number(b" place ", r.place as u64);
     put_number(b" ignored ", r.ignored as u64);
 }
@@ -200,12 +83,11 @@ fn read_back(lines: &[u8], body: &[u8]) {
     put_same(lines, &reported, r.written);
 }
 
-// The same where the number is 0 and the bytes written are a part of those lent.
+// The same where the number is 0, on the bytes written.
 fn read_back_written(lines: &[u8], out: &[u8], w: Written) {
     if w.number == 0 {
-        if w.written <= out.len() {
-            read_back(lines, &out[..w.written]);
-        }
+        let n = sampling::front(out, w.written);
+        read_back(lines, &out[..n]);
     }
 }
 
@@ -217,21 +99,13 @@ fn write_into(lines: &[u8], out: &mut [u8]) {
     read_back_written(lines, out, w);
 }
 
-// The same with so many lent bytes, each 170.
-fn write_with(lines: &[u8], room: usize)
-    requires { ⌜ room ≤ 66000 ⌝ }
-{
-    let mut out = [170u8; MOST_LENT];
-    write_into(lines, &mut out[..room]);
-}
-
-// The same on the file of the lines.
-fn run(file: i32, room: usize)
-    requires { ⌜ room ≤ 66000 ⌝ }
-{
+// The same on the file of the lines, with so many lent bytes, each 170.
+fn run(file: i32, room: usize) {
     let mut lines = [0u8; MOST];
     let n = io::read_full(file, &mut lines);
-    write_with(&lines[..n], room);
+    let mut out = [170u8; MOST_LENT];
+    let lent = sampling::front(&out, room);
+    write_into(&lines[..n], &mut out[..lent]);
 }
 
 // Opens the file that an argument names, and writes the name.
@@ -244,13 +118,11 @@ fn open(argument: usize) -> i32 {
 }
 
 // The number of bytes that an argument tells, which is also written.
-fn room_of(argument: usize) -> usize
-    ensures { λ r. ⌜ r ≤ 66000 ⌝ }
-{
+fn room_of(argument: usize) -> usize {
     let mut text = io::buffer();
     let n = os::arg(argument, &mut text);
     io::write_all(STDOUT_FILENO, &text[..n]);
-    number_of(&text[..n])
+    sampling::number_of(&text[..n], MOST_LENT)
 }
 
 // One case: the number of each of its two arguments.
@@ -266,6 +138,7 @@ fn one_case(lines: usize, lent: usize) {
     libc::close(file);
 }
 
+// Runs one case after the other.
 fn main() {
     let n = os::arg_count();
     let mut i: usize = 1;

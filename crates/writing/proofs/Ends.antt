@@ -1,25 +1,24 @@
 -- The answers, one law for each way out of the code: lines that are refused leave the buffer as it is, and those that are accepted fill its
 -- front with exactly their body, copied from the first pass's buffer where it fits that, and else written by a second pass, which is lent as
 -- much room as the first one measured. Assumes nothing.
-use Prim.Native.Nat.{ℕ, _+_, _≤_, _<_, min}
+use Prim.Native.Nat.{ℕ, _≤_, _<_}
 use native.Mathlib.Omega.{arith}
 use mathlib.Core.Path.{_≡_, sym, ap, _∙_}
 use mathlib.Core.List.{List, [], _++_, append-nil}
 use borrow.Author.Tests.{le-leb, lt-leb}
 use lib.ListN.{length, take, drop, drop-of-length-le}
 use lib.Seq.{sets, length-take-le, take-append-seam}
-use Rattle.sequences.specs.Stored.{Put}
+use Rattle.sequences.specs.Stored.{Clipped, Put}
 use Rattle.sequences.proofs.Splices.{sets-front}
 use Rattle.reading.specs.Walks.{Walked}
-use Rattle.lexis.specs.Limits.{byteLimit}
+use Rattle.lexis_rules.specs.Limits.{byteLimit}
 use Rattle.compose.specs.Entries.{Entry}
 use Rattle.compose.specs.Bodies.{bodyOf}
 use Rattle.compose.specs.Compose.{front, entries, refusal, sized, answer, compose}
 use Rattle.compose.proofs.Runs.{Walk, accepted, refused, walk}
 use Rattle.writing.specs.declared.Lines.{Lines}
-use Rattle.writing.specs.declared.Written.{Written}
-use Rattle.writing.specs.Answers.{answerOf, leaves}
-use Rattle.pieces.specs.Internal.{cap, Clipped}
+use Rattle.compose.specs.declared.Written.{Written}
+use Rattle.compose.specs.Answers.{answerOf, leaves}
 use Rattle.writing.specs.Internal.{LinesPut}
 
 -- a walk that isn't refused ends well
@@ -60,9 +59,6 @@ short e = omega (arith, e)
 pub front-long : (l : List ℕ) (n : ℕ) → n ≤ length l → n ≡ length (take n l)
 front-long l n h = sym (length-take-le n l h)
 
-pub front-room : (l : List ℕ) (n : ℕ) → n ≤ length l → n ≤ cap → length (take n l) ≤ cap
-front-room l n h k = omega (arith, length-take-le n l h)
-
 pub scratch-long : {w : Walked Entry} {own scratch : List ℕ} {m : Lines} → LinesPut w own scratch m → m .next ≤ length own → m .next ≤ length scratch
 scratch-long k l = omega (arith, l, k .long)
 
@@ -88,26 +84,20 @@ module _ (s old : List ℕ) where
       clip : Clipped own 0 (bodyOf (entries s .items)) scratch (m .next)
       clip = k .put (k .number ∙ well)
 
-      pub answer-1 : m .next ≡ cap → Answered s old old (record { number = 1; place = 0; written = 0 })
+      pub answer-1 : byteLimit < m .next → Answered s old old (record { number = 1; place = 0; written = 0 })
       unfolding compose
       answer-1 z = refuses 1 0 (answer-long (length old) (entries s) well (omega (arith, clip .place, z)))
 
-      pub next-low : m .next ≤ cap
-      next-low = omega (arith, clip .place)
-
-      module _ (nc : m .next ≡ cap → ⊥) where
+      module _ (low : m .next ≤ byteLimit) where
         needed : m .next ≡ length (bodyOf (entries s .items))
-        needed = go (clip .place) nc
-          where
-            go : m .next ≡ min (0 + length (bodyOf (entries s .items))) cap → (m .next ≡ cap → ⊥) → m .next ≡ length (bodyOf (entries s .items))
-            go e f = omega (arith, e, f)
+        needed = omega (arith, clip .place, low)
 
-        low : length (bodyOf (entries s .items)) ≤ byteLimit
-        low = omega (arith, needed, clip .place, nc)
+        short-body : length (bodyOf (entries s .items)) ≤ byteLimit
+        short-body = omega (arith, needed, low)
 
         pub answer-6 : length old < m .next → Answered s old old (record { number = 6; place = m .next; written = 0 })
         unfolding compose
-        answer-6 l = refuses 6 (m .next) (answer-short (length old) (entries s) well low (rw needed at l) ∙ ap (refusal 6) (sym needed))
+        answer-6 l = refuses 6 (m .next) (answer-short (length old) (entries s) well short-body (rw needed at l) ∙ ap (refusal 6) (sym needed))
 
         module _ (l : m .next ≤ length old) where
           -- all of it is written over the front
@@ -116,7 +106,7 @@ module _ (s old : List ℕ) where
           unfolding compose
           fills new b =
               let q : compose s (length old) ≡ record { number = 0; place = 0; written = bodyOf (entries s .items) } =
-              answer-fits (length old) (entries s) well low (rw needed at l) in
+              answer-fits (length old) (entries s) well short-body (rw needed at l) in
               (rw (q, needed), rw q b)
 
           -- it is copied from the first pass's buffer

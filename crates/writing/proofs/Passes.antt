@@ -9,9 +9,10 @@ use mathlib.Core.List.{List, [], _++_}
 use mathlib.Core.Option.{Option, none, some}
 use lib.ListN.{length, drop, getD, length-drop, length-take, take-append-drop, drop-of-length-le}
 use lib.Seq.{drop-drop}
-use borrow.Author.Tests.{le-leb}
 use mir.Syntax.{w64}
 use mir.Val as machine
+use Rattle.sequences.specs.Stored.{Clipped}
+use Rattle.sequences.proofs.Clips.{clipped-long, Going, going-start, going-step, going-done}
 use Rattle.reading.specs.Parsers.{Got, nothing, got}
 use Rattle.reading.specs.Places.{from}
 use Rattle.reading.specs.Walks.{Walked, ended, before}
@@ -25,9 +26,8 @@ use Rattle.compose.proofs.Lines.{entry-finds}
 use Rattle.compose.proofs.Runs.{walked-stops, walked-goes, walked-last, walked-early}
 use Rattle.pieces.specs.declared.Piece.{Piece}
 use Rattle.writing.specs.declared.Lines.{Lines}
-use Rattle.pieces.specs.Internal.{cap, entryAt, pieceAt, bytesAt, Clipped}
+use Rattle.pieces.specs.Internal.{pieceAt, bytesAt}
 use Rattle.writing.specs.Internal.{codeOf, nextCode, finalCode, LinesPut}
-use Rattle.pieces.proofs.Clips.{clipped-long, Going, going-start, going-step, going-done}
 use Rattle.writing.proofs.States.{letter, codeIn, next-is, final-is, code-low}
 
 -- ==== a line that was read
@@ -114,9 +114,6 @@ module _ (s old out : List ℕ) (at n k to : ℕ) (w : Lining s old out at n k t
   abbrev left : Walked Entry
   left = walked (w .state) n 0 (drop at s)
 
-  pub lining-room : length old ≤ cap → (length out ≤ cap) × (to ≤ cap)
-  lining-room h = (omega (arith, w .going .long), w .going .low)
-
   pub lining-long : length out ≡ length old
   lining-long = w .going .long
 
@@ -152,14 +149,9 @@ module _ (s old out : List ℕ) (at n k to : ℕ) (w : Lining s old out at n k t
         }
 
   -- a line
-  module _ (l : at < length s) (h : length old ≤ cap) (new : List ℕ) (r : Piece)
-      (R : (r ≡ pieceAt at to (entryAt (length out) to s at)) × (new ≡ bytesAt out to (entryAt (length out) to s at))) where
+  module _ (l : at < length s) (new : List ℕ) (r : Piece) (R : (r ≡ pieceAt at to (from entry s at)) × (new ≡ bytesAt out to (from entry s at))) where
     there : 0 < length (drop at s)
     there = omega (arith, length-drop at s)
-
-    roomy : entryAt (length out) to s at ≡ from entry s at
-    unfolding entryAt
-    roomy = rw (entryAt, le-leb (length out) cap (lining-room h .0), le-leb to cap (lining-room h .1))
 
     record Read : Type 0 where
       what : Entry
@@ -175,17 +167,15 @@ module _ (s old out : List ℕ) (at n k to : ℕ) (w : Lining s old out at n k t
       where
         go : (g : Got Entry) → from entry s at ≡ g → Taken
         go nothing q =
-            let e : entryAt (length out) to s at ≡ nothing = roomy ∙ q in
-            untaken (none-at entry s at (sym q)) (ap (λ (x : Piece). x .end) (R .0 ∙ ap (pieceAt at to) e)) (R .1 ∙ ap (bytesAt out to) e)
+            untaken (none-at entry s at (sym q)) (ap (λ (x : Piece). x .end) (R .0 ∙ ap (pieceAt at to) q)) (R .1 ∙ ap (bytesAt out to) q)
         go (got e n) q =
-            let d : entryAt (length out) to s at ≡ got e n = roomy ∙ q in
-            let p : r ≡ pieceAt at to (got e n) = R .0 ∙ ap (pieceAt at to) d in
+            let p : r ≡ pieceAt at to (got e n) = R .0 ∙ ap (pieceAt at to) q in
             let z : r .end ≡ n = ap (λ (x : Piece). x .end) p in
             taken
             (record {
               what = e;
               found = found s at e (r .end) (ap (λ (m : ℕ). got e m) z ∙ sym q);
-              clip = record { place = ap (λ (x : Piece). x .next) p; bytes = R .1 ∙ ap (bytesAt out to) d };
+              clip = record { place = ap (λ (x : Piece). x .next) p; bytes = R .1 ∙ ap (bytesAt out to) q };
             })
 
     pub lining-grown : length new ≡ length old
@@ -229,9 +219,9 @@ module _ (s old out : List ℕ) (at n k to : ℕ) (w : Lining s old out at n k t
             go none q = refuses new lining-grown (walked-stops (w .state) n (drop at s) there (step-not (w .state) (read .what) (drop at s) (read .found .size) (read .found .is) q))
             go (some u) q = absurd (let y : t ≡ codeOf u = codes ∙ ap codeIn q in omega (arith, y, z, code-low u))
 
-        pub lining-more : (t ≡ 5 → ⊥) → Lining s old new (r .end) (n + 1) t (r .next)
+        pub lining-more : (t ≡ 5 → ⊥) → length old < 2 ^ 64 → Lining s old new (r .end) (n + 1) t (r .next)
         unfolding codeIn bodyOf
-        lining-more f = go (goes (w .state) (read .what)) refl
+        lining-more f h = go (goes (w .state) (read .what)) refl
           where
             go : (o : Option State) → goes (w .state) (read .what) ≡ o → Lining s old new (r .end) (n + 1) t (r .next)
             go none q = absurd (f (codes ∙ ap codeIn q))
@@ -245,6 +235,6 @@ module _ (s old out : List ℕ) (at n k to : ℕ) (w : Lining s old out at n k t
                   code = codes ∙ ap codeIn q;
                   number = sym (ap (λ (x : Walked Entry). x .number) e) ∙ w .number;
                   place = sym (ap (λ (x : Walked Entry). x .place) e) ∙ w .place;
-                  going = going-step h (w .going) (ap (λ (x : Walked Entry). bodyOf (x .items)) e) (read .clip);
+                  going = going-step (omega (arith, h)) (w .going) (ap (λ (x : Walked Entry). bodyOf (x .items)) e) (read .clip);
                   count = omega (arith, w .count, read .found .sum, read .found .two);
                 }

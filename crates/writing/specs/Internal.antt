@@ -5,11 +5,11 @@ use mathlib.Core.Bool.{Bool, true, false, cond}
 use mathlib.Core.List.{List}
 use lib.Dec.{eqb}
 use lib.ListN.{length}
+use Rattle.sequences.specs.Stored.{Clipped}
 use Rattle.reading.specs.Walks.{Walked}
 use Rattle.compose.specs.Entries.{Entry}
 use Rattle.compose.specs.Bodies.{bodyOf}
 use Rattle.compose.specs.Compose.{State, front, named, closed, stated, detailed}
-use Rattle.pieces.specs.Internal.{Clipped}
 use Rattle.writing.specs.declared.Lines.{Lines}
 
 -- what stands before a line, as a number; 5 is said of a line that can't stand

@@ -8,16 +8,16 @@
 //   1   the body to be written has more than 65,536 bytes: place 0
 //   6   `out` is too short: the bytes needed
 // tried in this order. A refusal writes nothing and returns a zero count; bytes past those written stay unchanged.
+use answer_numbers::Number;
+use compose::Written;
 ghost use mathlib.Core.Path.{_≡_};
-ghost use Prim.Native.Nat.{_≤_};
 ghost use lib.ListN.{length};
 ghost use Rattle.compose.specs.Compose.{entries, compose};
-ghost use Rattle.pieces.specs.Internal.{cap};
 ghost use Rattle.writing.specs.Internal.{onlyCode, nextCode, finalCode, LinesPut};
-ghost use Rattle.writing.specs.Answers.{answerOf, leaves};
+ghost use Rattle.compose.specs.Answers.{answerOf, leaves};
 
-// One more than the most bytes that a body may have (`pieces::put_line` stops there).
-const CAP: usize = 65537;
+// The most bytes that a body may have.
+const LIMIT: usize = 65536;
 
 // What stands before a line: nothing; the `id` line; the line `none`; an `m` line; an `r` or `p` line. The last is said of a line that can't
 // stand there.
@@ -91,9 +91,8 @@ struct Lines {
     next: usize,
 }
 
-// Every line, and what it adds to the body. Where a line can't go on, those before it are written.
+// Every line, and what it adds to the body, as far as there is room. Where a line can't go on, those before it are written.
 fn put_lines(s: &[u8], out: &mut [u8]) -> Lines
-    requires { ⌜ length (now out) ≤ cap ⌝ }
     ensures { λ r. ⌜ LinesPut (entries (now (s .entry))) (now (out .entry)) (now (out .exit)) r ⌝ }
 {
     let mut at: usize = 0;
@@ -104,7 +103,7 @@ fn put_lines(s: &[u8], out: &mut [u8]) -> Lines
         let r = pieces::put_line(s, at, out, to);
         if r.end == at {
             return Lines {
-                number: 11,
+                number: Number::NO_SUCH_REPORT,
                 place: n,
                 next: 0,
             };
@@ -112,7 +111,7 @@ fn put_lines(s: &[u8], out: &mut [u8]) -> Lines
         let t = next_state(state, reading::byte(s, at, 0));
         if t == STUCK {
             return Lines {
-                number: 11,
+                number: Number::NO_SUCH_REPORT,
                 place: n,
                 next: 0,
             };
@@ -124,23 +123,16 @@ fn put_lines(s: &[u8], out: &mut [u8]) -> Lines
     }
     if is_final(state) {
         return Lines {
-            number: 0,
+            number: Number::DONE,
             place: 0,
             next: to,
         };
     }
     Lines {
-        number: 11,
+        number: Number::NO_SUCH_REPORT,
         place: n,
         next: 0,
     }
-}
-
-// What `write` answers: number, place, and how many bytes were written.
-pub struct Written {
-    pub number: u8,
-    pub place: usize,
-    pub written: usize,
 }
 
 // Writes the body that report lines say. The first pass runs on a buffer of its own, and so measures. What fits that too is copied from
@@ -151,23 +143,23 @@ pub fn write(lines: &[u8], out: &mut [u8]) -> Written
 {
     let mut scratch = [0u8; 1024];
     let first = put_lines(lines, &mut scratch);
-    if first.number == 11 {
+    if first.number == Number::NO_SUCH_REPORT {
         return Written {
-            number: 11,
+            number: Number::NO_SUCH_REPORT,
             place: first.place,
             written: 0,
         };
     }
-    if first.next == CAP {
+    if first.next > LIMIT {
         return Written {
-            number: 1,
+            number: Number::TOO_LONG,
             place: 0,
             written: 0,
         };
     }
     if first.next > out.len() {
         return Written {
-            number: 6,
+            number: Number::TOO_SHORT,
             place: first.next,
             written: 0,
         };
@@ -175,14 +167,14 @@ pub fn write(lines: &[u8], out: &mut [u8]) -> Written
     if first.next > scratch.len() {
         put_lines(lines, &mut out[..first.next]);
         return Written {
-            number: 0,
+            number: Number::DONE,
             place: 0,
             written: first.next,
         };
     }
-    lexis::text::put_text(&scratch[..first.next], out, 0);
+    texts::put_text(&scratch[..first.next], out, 0);
     Written {
-        number: 0,
+        number: Number::DONE,
         place: 0,
         written: first.next,
     }

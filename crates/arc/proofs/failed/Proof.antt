@@ -1,6 +1,6 @@
 -- `arc::failed` meets its contract: a failed chain has this answer by definition. Assumes nothing.
 use mathlib.Core.Path.{refl}
-use Rattle.arc.specs.Chain.{judged}
+use Rattle.arc_rules.specs.Chain.{judged}
 use Rattle.arc.proofs.failed.Statement.{statement}
 use Rattle.arc.proofs.failed.Tie as tie
 

@@ -1,5 +1,5 @@
 -- `arc::judge` meets its contract: each way out is an answer of the definition, in its order. Assumes nothing.
-use Rattle.arc.proofs.Judging.{judge-small, rank-fits, answer-1, answer-2-4, answer-unread, answer-repeated, answer-none, answer-ranked}
+use Rattle.arc.proofs.Judging.{judge-small, judge-complete-fits, answer-1, answer-2-4, answer-unread, answer-repeated, answer-none, answer-ranked}
 use borrow.Author.Needs.{needs}
 use Rattle.arc.proofs.judge.Statement.{statement}
 use Rattle.arc.proofs.judge.Tie as tie
@@ -13,8 +13,8 @@ blank-requires c κs = search needs
 returns : tie.Need-returns
 returns c = search answer-1
 
-gather-requires : tie.Need-gather-requires
-gather-requires c κs = search judge-small
+read-sets-requires : tie.Need-read-sets-requires
+read-sets-requires c κs = search judge-small
 
 blank-requires-2 : tie.Need-blank-requires-2
 blank-requires-2 c κs = search needs
@@ -40,11 +40,11 @@ blank-requires-3 c κs = search needs
 returns-5 : tie.Need-returns-5
 returns-5 c = search answer-none
 
-rank-requires : tie.Need-rank-requires
-rank-requires c κs = rank-fits _ _ _ (c .before .before .before .before .before .before .before .before .before .before .gather .result) (c .before .before .before .before .before .before .before .before .before .before .gather .ensures) (c .before .before .if5 .left)
+judge-complete-requires : tie.Need-judge-complete-requires
+judge-complete-requires c κs = judge-complete-fits _ _ _ (c .before .before .before .before .before .before .before .before .before .before .read-sets .result) (c .before .before .before .before .before .before .before .before .before .before .read-sets .ensures) (c .before .before .if5 .left)
 
 returns-6 : tie.Need-returns-6
-returns-6 c = answer-ranked _ _ _ _ (c .before .before .before .before .before .before .before .before .before .before .before .before .before .before .before .too-long .ensures) (c .before .before .before .before .before .before .before .before .before .before .before .before .before .before .if1 .left) _ _ (c .before .before .before .before .before .before .before .before .before .before .before .gather .result) (c .before .before .before .before .before .before .before .before .before .before .before .gather .ensures) (c .before .before .before .before .before .before .before .before .before .if2 .left) (c .before .before .before .before .before .before .before .if3 .left) (c .before .before .before .before .before .if4 .left) (c .before .before .before .if5 .left) (c .rank .ensures)
+returns-6 c = answer-ranked _ _ _ _ (c .before .before .before .before .before .before .before .before .before .before .before .before .before .before .before .too-long .ensures) (c .before .before .before .before .before .before .before .before .before .before .before .before .before .before .if1 .left) _ _ (c .before .before .before .before .before .before .before .before .before .before .before .read-sets .result) (c .before .before .before .before .before .before .before .before .before .before .before .read-sets .ensures) (c .before .before .before .before .before .before .before .before .before .if2 .left) (c .before .before .before .before .before .before .before .if3 .left) (c .before .before .before .before .before .if4 .left) (c .before .before .before .if5 .left) (c .judge-complete .ensures)
 
 pub judge-spec : {M : Type 1} → statement M
 judge-spec =
@@ -53,7 +53,7 @@ judge-spec =
     too-long-requires
     blank-requires
     returns
-    gather-requires
+    read-sets-requires
     blank-requires-2
     returns-2
     failed-requires
@@ -62,5 +62,5 @@ judge-spec =
     returns-4
     blank-requires-3
     returns-5
-    rank-requires
+    judge-complete-requires
     returns-6)

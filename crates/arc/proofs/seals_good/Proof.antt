@@ -3,7 +3,7 @@ use Prim.Native.Nat.{_-_}
 use native.Mathlib.Omega.{arith}
 use borrow.Author.Needs.{needs}
 use lib.ListN.{length}
-use Rattle.arc.specs.Chain.{sealGood}
+use Rattle.arc_rules.specs.Chain.{sealGood}
 use Rattle.arc.proofs.Ranking.{AllFrom, all-start, seals-more, seals-bad, seals-done}
 use Rattle.arc.proofs.seals_good.Statement.{statement}
 use Rattle.arc.proofs.seals_good.Tie as tie

@@ -6,7 +6,7 @@ use lib.ListN.{length}
 use Rattle.reading.specs.Readers.{run}
 use Rattle.reading.specs.Places.{Reaches}
 use Rattle.reading.proofs.Loops.{reaches-start, run-on, run-off, run-out}
-use Rattle.authserv.specs.Identifier.{identifierByte}
+use Rattle.authserv_rules.specs.Identifier.{identifierByte}
 use Rattle.authserv.proofs.token_from.Statement.{statement}
 use Rattle.authserv.proofs.token_from.Tie as tie
 

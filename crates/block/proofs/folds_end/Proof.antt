@@ -5,7 +5,7 @@ use lib.ListN.{length}
 use Rattle.reading.specs.Readers.{many}
 use Rattle.reading.specs.Places.{Reaches}
 use Rattle.reading.proofs.Loops.{reaches-start}
-use Rattle.block.specs.Fields.{folded}
+use Rattle.block_rules.specs.Fields.{folded}
 use Rattle.block.proofs.Lines.{folds-on, folds-off, folds-less}
 use Rattle.block.proofs.folds_end.Statement.{statement}
 use Rattle.block.proofs.folds_end.Tie as tie

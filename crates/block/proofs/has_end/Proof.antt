@@ -7,7 +7,7 @@ use borrow.Author.Needs.{needs}
 use Rattle.sequences.proofs.Booleans.{no-true}
 use Rattle.reading.specs.Places.{Reaches}
 use Rattle.reading.proofs.Loops.{piece-none, piece-more, piece-all}
-use Rattle.block.specs.Fields.{lineText}
+use Rattle.block_rules.specs.Fields.{lineText}
 use Rattle.block.proofs.has_end.Statement.{statement}
 use Rattle.block.proofs.has_end.Tie as tie
 

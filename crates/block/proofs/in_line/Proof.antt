@@ -2,7 +2,7 @@
 use borrow.Author.Tests.{ne-eqb}
 use Rattle.sequences.proofs.Booleans.{or-none}
 use Rattle.reading.specs.Texts.{oneOf}
-use Rattle.block.specs.Fields.{inLine}
+use Rattle.block_rules.specs.Fields.{inLine}
 use Rattle.block.proofs.in_line.Statement.{statement}
 use Rattle.block.proofs.in_line.Tie as tie
 

@@ -4,9 +4,8 @@ use native.Mathlib.Omega.{arith}
 use borrow.Author.Needs.{needs}
 use lib.ListN.{length}
 use Rattle.reading.specs.Places.{Reaches}
-use Rattle.reading.proofs.Loops.{reaches-start, reaches-found}
-use Rattle.block.specs.Fields.{inLine, lineText}
-use Rattle.block.proofs.Lines.{text-on}
+use Rattle.reading.proofs.Loops.{reaches-start, reaches-found, text-on}
+use Rattle.block_rules.specs.Fields.{inLine, lineText}
 use Rattle.block.proofs.line_text.Statement.{statement}
 use Rattle.block.proofs.line_text.Tie as tie
 

@@ -5,7 +5,7 @@ use borrow.Author.Needs.{needs}
 use lib.ListN.{length}
 use Rattle.reading.specs.Places.{Reaches}
 use Rattle.reading.proofs.Loops.{reaches-start, run-on, run-off, run-out}
-use Rattle.block.specs.Fields.{lineText}
+use Rattle.block_rules.specs.Fields.{lineText}
 use Rattle.block.proofs.near.Statement.{statement}
 use Rattle.block.proofs.near.Tie as tie
 

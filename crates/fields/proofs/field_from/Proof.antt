@@ -1,3 +1,4 @@
+-- `fields::field_from` meets its contract: what is left of the search at each field is what it was at the first. Assumes nothing.
 use native.Mathlib.Omega.{arith}
 use borrow.Author.Needs.{needs}
 use Prim.Native.Nat.{_-_}

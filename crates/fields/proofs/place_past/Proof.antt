@@ -1,6 +1,7 @@
+-- `fields::place_past` meets its contract: by the two cases of a step. Assumes nothing.
 use borrow.Author.Needs.{needs}
 use mathlib.Core.Path.{sym, ap, _∙_}
-use Rattle.fields.specs.Steps.{pastOf}
+use Rattle.fields_rules.specs.Steps.{pastOf}
 use Rattle.fields.proofs.place_past.Statement.{statement}
 use Rattle.fields.proofs.place_past.Tie as tie
 

@@ -6,8 +6,8 @@ use borrow.Author.Needs.{needs}
 use lib.ListN.{length}
 use Rattle.reading.specs.Places.{Reaches}
 use Rattle.reading.proofs.Loops.{reaches-start, there-fits}
-use Rattle.lexis.specs.declared.Class.the-variants.{Comment}
-use Rattle.lexis.specs.Pieces.{content}
+use Rattle.lexis_rules.specs.declared.Class.the-variants.{Comment}
+use Rattle.lexis_rules.specs.Pieces.{content}
 use Rattle.lexis.proofs.Loops.{no-level, comment-opens-not, comment-closes, comment-closes-not, comment-no-open, at-comment, past-comment, past-comment-less, at-item, past-item, past-item-less, item-turn}
 use Prim.Native.Nat.{ℕ, _<_}
 use borrow.Fn.Kinds.{In}

@@ -1,5 +1,5 @@
 -- `lexis::counted_from` meets its contract: leading zeros, but the last of zeros alone. Assumes nothing.
-use Rattle.lexis.proofs.Numbers.{counted-first, counted-none, counted-last}
+use Rattle.lexis_rules.proofs.Numbers.{counted-first, counted-none, counted-last}
 use borrow.Author.Needs.{needs}
 use Rattle.lexis.proofs.counted_from.Statement.{statement}
 use Rattle.lexis.proofs.counted_from.Tie as tie

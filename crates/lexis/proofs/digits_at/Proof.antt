@@ -1,5 +1,5 @@
 -- `lexis::digits_at` meets its contract: the number is 1 exactly where one digit counts and it is 1. Assumes nothing.
-use Rattle.lexis.proofs.Numbers.{digits-are}
+use Rattle.lexis_rules.proofs.Numbers.{digits-are}
 use borrow.Author.Needs.{needs}
 use Rattle.lexis.proofs.digits_at.Statement.{statement}
 use Rattle.lexis.proofs.digits_at.Tie as tie

@@ -1,5 +1,5 @@
 -- `lexis::is_one` meets its contract: each test is one of the definition. Assumes nothing.
-use Rattle.lexis.proofs.Numbers.{one-digit, not-one-digit, no-digits}
+use Rattle.lexis_rules.proofs.Numbers.{one-digit, not-one-digit, no-digits}
 use borrow.Author.Needs.{needs}
 use Rattle.lexis.proofs.is_one.Statement.{statement}
 use Rattle.lexis.proofs.is_one.Tie as tie

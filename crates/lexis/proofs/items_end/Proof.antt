@@ -5,7 +5,7 @@ use lib.ListN.{length}
 use Rattle.reading.specs.Readers.{many}
 use Rattle.reading.specs.Places.{Reaches}
 use Rattle.reading.proofs.Loops.{reaches-start}
-use Rattle.lexis.specs.Pieces.{item}
+use Rattle.lexis_rules.specs.Pieces.{item}
 use Rattle.lexis.proofs.Loops.{items-on, items-off, item-turn, item-less}
 use Rattle.lexis.proofs.items_end.Statement.{statement}
 use Rattle.lexis.proofs.items_end.Tie as tie

@@ -1,5 +1,5 @@
 -- `lexis::rows_of` meets its contract: the binary digits of each class are computed. Assumes nothing.
-use Rattle.lexis.specs.Bytes.{inClass, letter}
+use Rattle.lexis_rules.specs.Bytes.{inClass, letter}
 use Rattle.lexis.specs.Internal.{bitsOf}
 use Rattle.reading.specs.Texts.{within, oneOf}
 use borrow.Author.Needs.{needs}

@@ -6,7 +6,7 @@ use lib.ListN.{length}
 use Rattle.reading.specs.Readers.{run}
 use Rattle.reading.specs.Places.{Reaches}
 use Rattle.reading.proofs.Loops.{reaches-start, run-on, run-off, run-out}
-use Rattle.lexis.specs.Bytes.{inClass}
+use Rattle.lexis_rules.specs.Bytes.{inClass}
 use Rattle.lexis.proofs.run_end.Statement.{statement}
 use Rattle.lexis.proofs.run_end.Tie as tie
 

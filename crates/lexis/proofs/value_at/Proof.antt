@@ -1,5 +1,5 @@
 -- `lexis::value_at` meets its contract: each way through the code is a case of the definition. Assumes nothing.
-use Rattle.lexis.proofs.Values.{value-unclosed, value-quoted, value-none, value-token}
+use Rattle.lexis_rules.proofs.Values.{value-unclosed, value-quoted, value-none, value-token}
 use borrow.Author.Needs.{needs}
 use Rattle.lexis.proofs.value_at.Statement.{statement}
 use Rattle.lexis.proofs.value_at.Tie as tie

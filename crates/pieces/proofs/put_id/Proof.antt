@@ -10,23 +10,17 @@ slice-aggregate-is-literal c = search needs
 is-literal-requires : tie.Need-is-literal-requires
 is-literal-requires c κs = search needs
 
-add-text-line : tie.Need-add-text-line
-add-text-line c = search id-fits
+add-a : tie.Need-add-a
+add-a c = search id-fits
 
 text-line-requires : tie.Need-text-line-requires
 text-line-requires c κs = search needs
 
-add-if2 : tie.Need-add-if2
-add-if2 c = search id-fits
-
 returns : tie.Need-returns
 returns c = search id-untailed
 
-put-requires : tie.Need-put-requires
-put-requires c κs = search needs
-
-add-put-value : tie.Need-add-put-value
-add-put-value c = search id-fits
+put-byte-requires : tie.Need-put-byte-requires
+put-byte-requires c κs = search needs
 
 put-value-requires : tie.Need-put-value-requires
 put-value-requires c κs = search needs
@@ -35,7 +29,7 @@ same-length : tie.Need-same-length
 same-length c = search needs
 
 returns-2 : tie.Need-returns-2
-returns-2 c = search id-put
+returns-2 c = id-put _ _ _ (c .before .before .before .before .before .before .before .before .before .before .before .before .is-literal .ensures) (c .before .before .before .before .before .before .before .before .before .before .before .if1 .taken) _ (c .before .before .before .before .before .before .before .before .before .before .text-line .ensures) (c .before .before .before .before .before .before .before .before .if2 .left) _ _ (c .before .before .before .before .before .before .before .before .before .before .before .before .before .before .before .before .good .1 .1 .0 .0) _ _ (c .before .before .before .before .before .before .put-byte .ensures) (c .before .before .put-value .last .1 .1 .1 .0) (c .before .before .put-value .result) (c .before .before .put-value .ensures)
 
 returns-3 : tie.Need-returns-3
 returns-3 c = search id-unlike
@@ -46,12 +40,10 @@ put-id-spec =
     (tie.spec
     slice-aggregate-is-literal
     is-literal-requires
-    add-text-line
+    add-a
     text-line-requires
-    add-if2
     returns
-    put-requires
-    add-put-value
+    put-byte-requires
     put-value-requires
     same-length
     returns-2

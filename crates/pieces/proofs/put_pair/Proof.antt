@@ -7,8 +7,8 @@ use Rattle.pieces.proofs.put_pair.Tie as tie
 put-part-requires : tie.Need-put-part-requires
 put-part-requires c κs = search needs
 
-put-requires : tie.Need-put-requires
-put-requires c κs = search needs
+put-byte-requires : tie.Need-put-byte-requires
+put-byte-requires c κs = search needs
 
 put-part-requires-2 : tie.Need-put-part-requires-2
 put-part-requires-2 c κs = search needs
@@ -21,4 +21,4 @@ returns c = search pair-put
 
 pub put-pair-spec : {M : Type 1} → statement M
 put-pair-spec =
-    tie.close (tie.spec put-part-requires put-requires put-part-requires-2 same-length returns)
+    tie.close (tie.spec put-part-requires put-byte-requires put-part-requires-2 same-length returns)

@@ -1,5 +1,5 @@
 -- `pieces::put_property` meets its contract: each way out has its law in `Properties`. Assumes nothing.
-use Rattle.pieces.proofs.Properties.{property-unlike, property-fits, property-first, property-before, property-inside, property-next, property-second, property-before-second, property-inside-second, property-last, property-unshown, property-shown}
+use Rattle.pieces.proofs.Properties.{property-unlike, property-fits, property-first, property-inside, property-next, property-second, property-inside-second, property-last, property-unshown, property-shown}
 use borrow.Author.Needs.{needs}
 use Rattle.pieces.proofs.put_property.Statement.{statement}
 use Rattle.pieces.proofs.put_property.Tie as tie
@@ -28,32 +28,29 @@ column-end-requires-2 c κs = search needs
 returns-2 : tie.Need-returns-2
 returns-2 c = search property-second
 
+add-c : tie.Need-add-c
+add-c c = search property-last
+
 sub-put-valued : tie.Need-sub-put-valued
-sub-put-valued c = property-before _ _ _ (c .before .before .before .before .before .is-literal .ensures) (c .before .before .before .before .if1 .taken) _ (c .before .before .before .column-end .ensures) (c .before .before .if2 .left)
+sub-put-valued c = search needs
 
 part-put-valued-start : tie.Need-part-put-valued-start
-part-put-valued-start c = property-before _ _ _ (c .before .before .before .before .before .is-literal .ensures) (c .before .before .before .before .if1 .taken) _ (c .before .before .before .column-end .ensures) (c .before .before .if2 .left)
+part-put-valued-start c = search needs
 
 part-put-valued-end : tie.Need-part-put-valued-end
-part-put-valued-end c = property-inside _ _ _ (c .before .before .before .before .before .is-literal .ensures) (c .before .before .before .before .if1 .taken) _ (c .before .before .before .column-end .ensures) (c .before .before .if2 .left)
+part-put-valued-end c = search property-inside
 
 sub-put-valued-2 : tie.Need-sub-put-valued-2
-sub-put-valued-2 c = property-before-second _ _ _ (c .before .before .before .before .before .before .is-literal .ensures) (c .before .before .before .before .before .if1 .taken) _ (c .before .before .before .before .column-end .ensures) (c .before .before .before .if2 .left) _ (c .before .before .column-end2 .ensures) (c .before .if3 .left)
+sub-put-valued-2 c = search needs
 
 part-put-valued-start-2 : tie.Need-part-put-valued-start-2
-part-put-valued-start-2 c = property-before-second _ _ _ (c .before .before .before .before .before .before .is-literal .ensures) (c .before .before .before .before .before .if1 .taken) _ (c .before .before .before .before .column-end .ensures) (c .before .before .before .if2 .left) _ (c .before .before .column-end2 .ensures) (c .before .if3 .left)
+part-put-valued-start-2 c = search needs
 
 part-put-valued-end-2 : tie.Need-part-put-valued-end-2
-part-put-valued-end-2 c = property-inside-second _ _ _ (c .before .before .before .before .before .before .is-literal .ensures) (c .before .before .before .before .before .if1 .taken) _ (c .before .before .before .before .column-end .ensures) (c .before .before .before .if2 .left) _ (c .before .before .column-end2 .ensures) (c .before .if3 .left)
-
-add-put-valued : tie.Need-add-put-valued
-add-put-valued c = search (property-last _ _ _ (c .before .before .before .before .before .before .before .is-literal .ensures) (c .before .before .before .before .before .before .if1 .taken) _ (c .before .before .before .before .before .column-end .ensures) (c .before .before .before .before .if2 .left) _ (c .before .before .before .column-end2 .ensures) (c .before .before .if3 .left))
+part-put-valued-end-2 c = search property-inside-second
 
 put-valued-requires : tie.Need-put-valued-requires
-put-valued-requires c κs = c .before .before .before .before .before .before .before .before .before .before .before .before .pre
-
-add-if4 : tie.Need-add-if4
-add-if4 c = search (property-last _ _ _ (c .before .before .before .before .before .before .before .before .before .before .before .is-literal .ensures) (c .before .before .before .before .before .before .before .before .before .before .if1 .taken) _ (c .before .before .before .before .before .before .before .before .before .column-end .ensures) (c .before .before .before .before .before .before .before .before .if2 .left) _ (c .before .before .before .before .before .before .before .column-end2 .ensures) (c .before .before .before .before .before .before .if3 .left))
+put-valued-requires c κs = search needs
 
 same-length : tie.Need-same-length
 same-length c = search needs
@@ -82,15 +79,14 @@ put-property-spec =
     add-b
     column-end-requires-2
     returns-2
+    add-c
     sub-put-valued
     part-put-valued-start
     part-put-valued-end
     sub-put-valued-2
     part-put-valued-start-2
     part-put-valued-end-2
-    add-put-valued
     put-valued-requires
-    add-if4
     same-length
     returns-3
     same-length-2

@@ -10,14 +10,11 @@ slice-aggregate-is-literal c = search needs
 is-literal-requires : tie.Need-is-literal-requires
 is-literal-requires c κs = search needs
 
-add-text-line : tie.Need-add-text-line
-add-text-line c = search reason-fits
+add-b : tie.Need-add-b
+add-b c = search reason-fits
 
 text-line-requires : tie.Need-text-line-requires
 text-line-requires c κs = search needs
-
-add-if2 : tie.Need-add-if2
-add-if2 c = search reason-fits
 
 returns : tie.Need-returns
 returns c = search reason-untailed
@@ -28,9 +25,6 @@ slice-aggregate-put-part c = search needs
 put-part-requires : tie.Need-put-part-requires
 put-part-requires c κs = search needs
 
-add-put-value : tie.Need-add-put-value
-add-put-value c = search reason-fits
-
 put-value-requires : tie.Need-put-value-requires
 put-value-requires c κs = search needs
 
@@ -38,7 +32,7 @@ same-length : tie.Need-same-length
 same-length c = search needs
 
 returns-2 : tie.Need-returns-2
-returns-2 c = search reason-put
+returns-2 c = reason-put _ _ _ (c .before .before .before .before .before .before .before .before .before .before .before .before .before .is-literal .ensures) (c .before .before .before .before .before .before .before .before .before .before .before .before .if1 .taken) _ (c .before .before .before .before .before .before .before .before .before .before .before .text-line .ensures) (c .before .before .before .before .before .before .before .before .before .if2 .left) _ _ (c .before .before .before .before .before .before .before .before .before .before .before .before .before .before .before .before .before .good .1 .1 .0 .0) _ _ (c .before .before .before .before .before .before .put-part .ensures) (c .before .before .put-value .last .1 .1 .1 .0) (c .before .before .put-value .result) (c .before .before .put-value .ensures)
 
 returns-3 : tie.Need-returns-3
 returns-3 c = search reason-unlike
@@ -49,13 +43,11 @@ put-reason-spec =
     (tie.spec
     slice-aggregate-is-literal
     is-literal-requires
-    add-text-line
+    add-b
     text-line-requires
-    add-if2
     returns
     slice-aggregate-put-part
     put-part-requires
-    add-put-value
     put-value-requires
     same-length
     returns-2

@@ -1,17 +1,17 @@
--- `pieces::put_shown` meets its contract: each way out has its law in `Valuing`. Assumes nothing.
-use Rattle.pieces.proofs.Valuing.{shown-put}
+-- `pieces::put_shown` meets its contract: each way out has its law in `Properties`. Assumes nothing.
+use Rattle.pieces.proofs.Properties.{shown-put}
 use borrow.Author.Needs.{needs}
 use Rattle.pieces.proofs.put_shown.Statement.{statement}
 use Rattle.pieces.proofs.put_shown.Tie as tie
 
-put-requires : tie.Need-put-requires
-put-requires c κs = search needs
+put-byte-requires : tie.Need-put-byte-requires
+put-byte-requires c κs = search needs
 
 put-pair-requires : tie.Need-put-pair-requires
 put-pair-requires c κs = search needs
 
-put-requires-2 : tie.Need-put-requires-2
-put-requires-2 c κs = search needs
+put-byte-requires-2 : tie.Need-put-byte-requires-2
+put-byte-requires-2 c κs = search needs
 
 put-pvalue-requires : tie.Need-put-pvalue-requires
 put-pvalue-requires c κs = search needs
@@ -20,15 +20,15 @@ same-length : tie.Need-same-length
 same-length c = search needs
 
 returns : tie.Need-returns
-returns c = search shown-put
+returns c = shown-put (c .before .before .before .before .before .before .before .before .before .before .before .before .before .before .before .before .before .before .before .before .args .t .now) (c .before .before .before .before .before .before .before .before .before .before .before .before .before .before .before .before .before .before .before .before .args .p .now) _ _ _ _ (c .before .before .before .before .before .before .before .before .before .before .before .before .before .before .before .before .before .before .before .before .good .1 .1 .1 .1 .0 .0) _ _ (c .before .before .before .before .before .before .before .before .before .before .before .before .before .before .put-byte .ensures) (c .before .before .before .before .before .before .before .before .before .before .put-pair .last .1 .1 .1 .0) (c .before .before .before .before .before .before .before .before .before .before .put-pair .result) (c .before .before .before .before .before .before .before .before .before .before .put-pair .ensures) _ _ (c .before .before .before .before .before .before .put-byte2 .ensures) _ _ (c .before .before .put-pvalue .ensures)
 
 pub put-shown-spec : {M : Type 1} → statement M
 put-shown-spec =
     tie.close
     (tie.spec
-    put-requires
+    put-byte-requires
     put-pair-requires
-    put-requires-2
+    put-byte-requires-2
     put-pvalue-requires
     same-length
     returns)

@@ -1,5 +1,5 @@
 -- `pieces::put_valued` meets its contract: each way out has its law in `Properties`. Assumes nothing.
-use Rattle.pieces.proofs.Properties.{valued-not, valued-fits, valued-one, valued-before, valued-inside, valued-stands, valued-put}
+use Rattle.pieces.proofs.Properties.{valued-not, valued-fits, valued-one, valued-before, valued-inside, valued-put}
 use borrow.Author.Needs.{needs}
 use Rattle.pieces.proofs.put_valued.Statement.{statement}
 use Rattle.pieces.proofs.put_valued.Tie as tie
@@ -29,7 +29,7 @@ part-put-shown-end : tie.Need-part-put-shown-end
 part-put-shown-end c = search valued-inside
 
 put-shown-requires : tie.Need-put-shown-requires
-put-shown-requires c κs = (c .before .before .before .before .before .before .before .before .before .pre, valued-stands _ _ _ _ _ (c .before .before .before .before .shown-end .ensures) (c .before .before .before .if1 .left) _ (c .before .before .byte .ensures))
+put-shown-requires c κs = search needs
 
 same-length : tie.Need-same-length
 same-length c = search needs

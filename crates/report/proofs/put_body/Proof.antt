@@ -1,11 +1,11 @@
 -- `report::put_body` meets its contract: the line of the identifier, and what stands behind it. Assumes nothing.
-use Rattle.report.proofs.Heads.{id-room, body-room, body-said}
+use Rattle.report.proofs.Heads.{body-room, body-said}
 use borrow.Author.Needs.{needs}
 use Rattle.report.proofs.put_body.Statement.{statement}
 use Rattle.report.proofs.put_body.Tie as tie
 
 put-id-requires : tie.Need-put-id-requires
-put-id-requires c κs = id-room _ _ _ _ (c .before .before .before .args .out .now) (c .before .before .before .pre)
+put-id-requires c κs = search needs
 
 put-headed-requires : tie.Need-put-headed-requires
 put-headed-requires c κs =

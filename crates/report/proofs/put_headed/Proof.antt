@@ -24,8 +24,8 @@ version-at-requires c κs = search needs
 enum-known-start : tie.Need-enum-known-start
 enum-known-start c = search needs
 
-put-first-requires : tie.Need-put-first-requires
-put-first-requires c κs = search needs
+put-version-one-requires : tie.Need-put-version-one-requires
+put-version-one-requires c κs = search needs
 
 same-length : tie.Need-same-length
 same-length c = search needs
@@ -33,7 +33,7 @@ same-length c = search needs
 returns : tie.Need-returns
 returns c =
     one-stated _ _ _ _ _ _ _ (found (c .before .before .before .before .before)) (c .before .before .before .before .if1 .taken) _ _
-    (c .before .before .put-first .ensures)
+    (c .before .before .put-version-one .ensures)
 
 put-newer-requires : tie.Need-put-newer-requires
 put-newer-requires c κs =
@@ -43,8 +43,8 @@ put-newer-requires c κs =
 enum-told : tie.Need-enum-told
 enum-told c = search needs
 
-put-first-requires-2 : tie.Need-put-first-requires-2
-put-first-requires-2 c κs = search needs
+put-version-one-requires-2 : tie.Need-put-version-one-requires-2
+put-version-one-requires-2 c κs = search needs
 
 same-length-2 : tie.Need-same-length-2
 same-length-2 c = search needs
@@ -58,7 +58,7 @@ same-length-3 : tie.Need-same-length-3
 same-length-3 c = search needs
 
 returns-3 : tie.Need-returns-3
-returns-3 c = absent-stated _ _ _ _ (none (c .before .before .before .before)) _ _ (c .before .before .put-first2 .ensures)
+returns-3 c = absent-stated _ _ _ _ (none (c .before .before .before .before)) _ _ (c .before .before .put-version-one2 .ensures)
 
 pub put-headed-spec : {M : Type 1} → statement M
 put-headed-spec =
@@ -66,12 +66,12 @@ put-headed-spec =
     (tie.spec
     version-at-requires
     enum-known-start
-    put-first-requires
+    put-version-one-requires
     same-length
     returns
     put-newer-requires
     enum-told
-    put-first-requires-2
+    put-version-one-requires-2
     same-length-2
     returns-2
     same-length-3

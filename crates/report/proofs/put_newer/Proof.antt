@@ -1,5 +1,5 @@
 -- `report::put_newer` meets its contract: the line of the version, where what has to follow the head follows it. Assumes nothing.
-use Rattle.report.proofs.Heads.{newer-fits, newer-stated, newer-shut}
+use Rattle.report.proofs.Heads.{newer-stated, newer-shut}
 use borrow.Author.Needs.{needs}
 use Rattle.report.proofs.put_newer.Statement.{statement}
 use Rattle.report.proofs.put_newer.Tie as tie
@@ -17,7 +17,7 @@ part-put-version-end : tie.Need-part-put-version-end
 part-put-version-end c = search needs
 
 put-version-requires : tie.Need-put-version-requires
-put-version-requires c κs = search newer-fits
+put-version-requires c κs = search needs
 
 same-length : tie.Need-same-length
 same-length c = search needs

@@ -1,6 +1,6 @@
 -- `report::put_payload` meets its contract: the word none is the only reading where it is there, and else the list of results is, where
 -- it is not empty and the end follows. Assumes nothing.
-use Rattle.report.proofs.Payloads.{none-fits, payload-word, payload-room, payload-no-results, payload-not-ended, payload-results}
+use Rattle.report.proofs.Payloads.{payload-word, payload-room, payload-no-results, payload-not-ended, payload-results}
 use borrow.Author.Needs.{needs}
 use Rattle.report.proofs.put_payload.Statement.{statement}
 use Rattle.report.proofs.put_payload.Tie as tie
@@ -9,7 +9,7 @@ says-none-requires : tie.Need-says-none-requires
 says-none-requires c κs = search needs
 
 put-none-requires : tie.Need-put-none-requires
-put-none-requires c κs = search none-fits
+put-none-requires c κs = search needs
 
 same-length : tie.Need-same-length
 same-length c = search needs

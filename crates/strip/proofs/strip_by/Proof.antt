@@ -7,32 +7,32 @@ use borrow.Author.Needs.{needs}
 use Rattle.strip.proofs.strip_by.Statement.{statement}
 use Rattle.strip.proofs.strip_by.Tie as tie
 
-slice-aggregate-sift : tie.Need-slice-aggregate-sift
-slice-aggregate-sift c = search needs
+slice-aggregate-put-kept : tie.Need-slice-aggregate-put-kept
+slice-aggregate-put-kept c = search needs
 
-sift-requires : tie.Need-sift-requires
-sift-requires c κs = search needs
+put-kept-requires : tie.Need-put-kept-requires
+put-kept-requires c κs = search needs
 
 refuse-requires : tie.Need-refuse-requires
 refuse-requires c κs = search needs
 
 returns : tie.Need-returns
-returns c = answer-2-4 (c .before .before .before .before .before .before .before .before .before .args .s .now) _ (c .before .before .before .before .before .before .before .before .before .args .out .now) _ (c .before .before .before .before .sift .result) _ _ (c .before .before .before .before .sift .ensures) (c .before .if1 .taken) (c .refuse .ensures)
+returns c = answer-2-4 (c .before .before .before .before .before .before .before .before .before .args .s .now) _ (c .before .before .before .before .before .before .before .before .before .args .out .now) _ (c .before .before .before .before .put-kept .result) _ _ (c .before .before .before .before .put-kept .ensures) (c .before .if1 .taken) (c .refuse .ensures)
 
 refuse-requires-2 : tie.Need-refuse-requires-2
 refuse-requires-2 c κs = search needs
 
 returns-2 : tie.Need-returns-2
-returns-2 c = answer-6 (c .before .before .before .before .before .before .before .before .before .before .before .args .s .now) _ (c .before .before .before .before .before .before .before .before .before .before .before .args .out .now) _ (c .before .before .before .before .before .before .sift .result) _ _ (c .before .before .before .before .before .before .sift .ensures) (search needs) (c .before .if2 .taken) (c .refuse2 .ensures)
+returns-2 c = answer-6 (c .before .before .before .before .before .before .before .before .before .before .before .args .s .now) _ (c .before .before .before .before .before .before .before .before .before .before .before .args .out .now) _ (c .before .before .before .before .before .before .put-kept .result) _ _ (c .before .before .before .before .before .before .put-kept .ensures) (search needs) (c .before .if2 .taken) (c .refuse2 .ensures)
 
-sift-requires-2 : tie.Need-sift-requires-2
-sift-requires-2 c κs = search needs
+put-kept-requires-2 : tie.Need-put-kept-requires-2
+put-kept-requires-2 c κs = search needs
 
 same-length : tie.Need-same-length
 same-length c = search needs
 
 returns-3 : tie.Need-returns-3
-returns-3 c = answer-0 (c .before .before .before .before .before .before .before .before .before .before .before .before .before .before .before .before .args .s .now) _ (c .before .before .before .before .before .before .before .before .before .before .before .before .before .before .before .before .args .out .now) _ (c .before .before .before .before .before .before .before .before .before .before .before .sift .result) _ _ (c .before .before .before .before .before .before .before .before .before .before .before .sift .ensures) (search needs) (c .before .before .before .before .before .before .if2 .left) _ (c .before .before .sift2 .ensures)
+returns-3 c = answer-0 (c .before .before .before .before .before .before .before .before .before .before .before .before .before .before .before .before .args .s .now) _ (c .before .before .before .before .before .before .before .before .before .before .before .before .before .before .before .before .args .out .now) _ (c .before .before .before .before .before .before .before .before .before .before .before .put-kept .result) _ _ (c .before .before .before .before .before .before .before .before .before .before .before .put-kept .ensures) (search needs) (c .before .before .before .before .before .before .if2 .left) _ (c .before .before .put-kept2 .ensures)
 
 array-share-prefix-first : tie.Need-array-share-prefix-first
 array-share-prefix-first c = search needs
@@ -47,19 +47,19 @@ same-length-2 : tie.Need-same-length-2
 same-length-2 c = search needs
 
 returns-4 : tie.Need-returns-4
-returns-4 c = answer-0 (c .before .before .before .before .before .before .before .before .before .before .before .before .before .before .before .before .before .args .s .now) _ (c .before .before .before .before .before .before .before .before .before .before .before .before .before .before .before .before .before .args .out .now) _ (c .before .before .before .before .before .before .before .before .before .before .before .before .sift .result) _ _ (c .before .before .before .before .before .before .before .before .before .before .before .before .sift .ensures) (search needs) (c .before .before .before .before .before .before .before .if2 .left) _ (copied _ _ _ _ _ _ (c .before .before .before .before .before .before .before .before .before .before .before .before .sift .ensures) (c .before .before .before .before .before .if3 .left) _ _ (c .before .before .put-text .ensures))
+returns-4 c = answer-0 (c .before .before .before .before .before .before .before .before .before .before .before .before .before .before .before .before .before .args .s .now) _ (c .before .before .before .before .before .before .before .before .before .before .before .before .before .before .before .before .before .args .out .now) _ (c .before .before .before .before .before .before .before .before .before .before .before .before .put-kept .result) _ _ (c .before .before .before .before .before .before .before .before .before .before .before .before .put-kept .ensures) (search needs) (c .before .before .before .before .before .before .before .if2 .left) _ (copied _ _ _ _ _ _ (c .before .before .before .before .before .before .before .before .before .before .before .before .put-kept .ensures) (c .before .before .before .before .before .if3 .left) _ _ (c .before .before .put-text .ensures))
 
 pub strip-by-spec : {M : Type 1} → statement M
 strip-by-spec =
     tie.close
     (tie.spec
-    slice-aggregate-sift
-    sift-requires
+    slice-aggregate-put-kept
+    put-kept-requires
     refuse-requires
     returns
     refuse-requires-2
     returns-2
-    sift-requires-2
+    put-kept-requires-2
     same-length
     returns-3
     array-share-prefix-first

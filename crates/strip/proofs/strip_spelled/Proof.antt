@@ -3,7 +3,7 @@ use native.Mathlib.Omega.{arith}
 use mathlib.Core.Path.{sym}
 use lib.Seq.{length-take-le}
 use Rattle.sequences.proofs.Splices.{put-long}
-use Rattle.authserv.proofs.OwnLists.{list-length}
+use Rattle.authserv_rules.proofs.OwnLists.{list-length}
 use Rattle.strip.proofs.Ends.{answer-spelled}
 use borrow.Author.Needs.{needs}
 use Rattle.strip.proofs.strip_spelled.Statement.{statement}

@@ -1,5 +1,5 @@
 -- `writing::put_lines` meets its contract: the loop keeps `Lining`, and each way out has its law. Assumes nothing.
-use Rattle.writing.proofs.Passes.{Lining, lining-start, lining-long, lining-early, lining-done, lining-grown, lining-missing, lining-less, lining-fits, lining-stuck, lining-more}
+use Rattle.writing.proofs.Passes.{Lining, lining-start, lining-long, lining-early, lining-done, lining-missing, lining-less, lining-fits, lining-stuck, lining-more}
 use borrow.Author.Needs.{needs}
 use lib.ListN.{length}
 use Prim.Native.Nat.{_-_}
@@ -13,13 +13,13 @@ abbrev μ-loop : tie.MeasureT-loop
 μ-loop s out₀ at₀ n₀ state₀ to₀ out at n state to = length s - at
 
 loop-holds : tie.Need-loop-holds Inv-loop μ-loop
-loop-holds c = search lining-start
+loop-holds c = lining-start _ _
 
 put-line-requires : tie.Need-put-line-requires Inv-loop μ-loop
 put-line-requires c κs = search needs
 
 same-length : tie.Need-same-length Inv-loop μ-loop
-same-length c = search lining-grown
+same-length c = search needs
 
 returns : tie.Need-returns Inv-loop μ-loop
 returns c = search lining-missing
@@ -31,19 +31,19 @@ next-state-requires : tie.Need-next-state-requires Inv-loop μ-loop
 next-state-requires c κs = search needs
 
 same-length-2 : tie.Need-same-length-2 Inv-loop μ-loop
-same-length-2 c = lining-grown _ _ _ _ _ _ _ (c .before .before .before .before .before .before .before .before .before .before .loop .inv) (c .before .before .before .before .before .before .before .before .before .loop-test .taken) (c .before .before .before .before .before .before .before .before .before .before .before .before .before .pre) _ _ (c .before .before .before .before .before .before .before .put-line .ensures)
+same-length-2 c = search needs
 
 returns-2 : tie.Need-returns-2 Inv-loop μ-loop
-returns-2 c = lining-stuck _ _ _ _ _ _ _ (c .before .before .before .before .before .before .before .before .before .before .loop .inv) (c .before .before .before .before .before .before .before .before .before .loop-test .taken) (c .before .before .before .before .before .before .before .before .before .before .before .before .before .pre) _ _ (c .before .before .before .before .before .before .before .put-line .ensures) (c .before .before .before .if1 .left) _ (c .before .before .byte .ensures) _ (c .before .next-state .ensures) (c .if2 .taken)
+returns-2 c = lining-stuck _ _ _ _ _ _ _ (c .before .before .before .before .before .before .before .before .before .before .loop .inv) (c .before .before .before .before .before .before .before .before .before .loop-test .taken) _ _ (c .before .before .before .before .before .before .before .put-line .ensures) (c .before .before .before .if1 .left) _ (c .before .before .byte .ensures) _ (c .before .next-state .ensures) (c .if2 .taken)
 
 add-n : tie.Need-add-n Inv-loop μ-loop
-add-n c = search (lining-fits _ _ _ _ _ _ _ (c .before .before .before .before .before .before .before .before .before .before .loop .inv) (c .before .before .before .before .before .before .before .before .before .loop-test .taken) (c .before .before .before .before .before .before .before .before .before .before .before .before .before .pre) _ _ (c .before .before .before .before .before .before .before .put-line .ensures) (c .before .before .before .if1 .left))
+add-n c = search (lining-fits _ _ _ _ _ _ _ (c .before .before .before .before .before .before .before .before .before .before .loop .inv) (c .before .before .before .before .before .before .before .before .before .loop-test .taken) _ _ (c .before .before .before .before .before .before .before .put-line .ensures) (c .before .before .before .if1 .left))
 
 loop-less : tie.Need-loop-less Inv-loop μ-loop
-loop-less c = lining-less _ _ _ _ _ _ _ (c .before .before .before .before .before .before .before .before .before .before .loop .inv) (c .before .before .before .before .before .before .before .before .before .loop-test .taken) (c .before .before .before .before .before .before .before .before .before .before .before .before .before .pre) _ _ (c .before .before .before .before .before .before .before .put-line .ensures) (c .before .before .before .if1 .left)
+loop-less c = lining-less _ _ _ _ _ _ _ (c .before .before .before .before .before .before .before .before .before .before .loop .inv) (c .before .before .before .before .before .before .before .before .before .loop-test .taken) _ _ (c .before .before .before .before .before .before .before .put-line .ensures) (c .before .before .before .if1 .left)
 
 loop-again : tie.Need-loop-again Inv-loop μ-loop
-loop-again c = lining-more _ _ _ _ _ _ _ (c .before .before .before .before .before .before .before .before .before .before .loop .inv) (c .before .before .before .before .before .before .before .before .before .loop-test .taken) (c .before .before .before .before .before .before .before .before .before .before .before .before .before .pre) _ _ (c .before .before .before .before .before .before .before .put-line .ensures) (c .before .before .before .if1 .left) _ (c .before .before .byte .ensures) _ (c .before .next-state .ensures) (c .if2 .left)
+loop-again c = search lining-more
 
 is-final-requires : tie.Need-is-final-requires Inv-loop μ-loop
 is-final-requires c κs = search needs

@@ -36,14 +36,14 @@ use denote.Triple.Table.{entered, cited}
 use denote.Triple.Walked.{says, Stays, stay-none, walkOf, goes-none, Walks, ends-at, walked, walk-meets}
 use denote.Exit.{yes}
 use denote.Triple.Clauses.{ensured, lasts}
-use Rattle.fields.specs.Steps.{stepFrom}
+use Rattle.fields_rules.specs.Steps.{stepFrom}
 use Rattle.fields.specs.declared.Fields.{Fields}
-use Rattle.fields.specs.declared.Step.{Step}
+use Rattle.fields_rules.specs.declared.Step.{Step}
 use Rattle.fields.proofs.Parts.{B, mach, handed, Own, apart}
 use Rattle.fields.proofs.Fields as T
 use Rattle.fields.proofs.Fields.Laws as T′
-use Rattle.fields.proofs.Step as S
-use Rattle.fields.proofs.Step.Laws as S′
+use Rattle.fields_rules.proofs.Step as S
+use Rattle.fields_rules.proofs.Step.Laws as S′
 use Rattle.fields.proofs.field_from as step
 use Rattle.fields.proofs.field_from.Symbol as step-def
 use Rattle.fields.proofs.field_from.Symbol.{name as #fields·field-from}

@@ -40,7 +40,7 @@ use denote.Triple.Table.{entered, cited}
 use denote.Triple.Walked.{says, Stays, stay-none, walkOf, goes-none, Walks, ends-at, walked, walk-meets}
 use denote.Exit.{yes}
 use denote.Triple.Clauses.{ensured, lasts}
-use Rattle.fields.specs.Steps.{pastFrom}
+use Rattle.fields_rules.specs.Steps.{pastFrom}
 use Rattle.fields.specs.declared.Fields.{Fields}
 use Rattle.fields.proofs.Parts.{B, mach, handed, Own, D, L, vd, apart}
 use Rattle.fields.proofs.Fields as T

@@ -6,7 +6,7 @@ use lib.ListN.{length}
 use borrow.Author.Needs.{needs}
 use Rattle.resinfo.specs.declared.Step.the-variants.{Property}
 use Rattle.resinfo.specs.Steps.{stepAt}
-use Rattle.report.proofs.Turns.{PropertyPlaces, property-places, Writing, writing-start, writing-further, writing-room, writing-more, written-done, written-refused}
+use Rattle.report.proofs.Turns.{TypeStands, property-places, Writing, writing-start, writing-further, writing-more, written-done, written-refused}
 use Rattle.report.proofs.results.put_properties.Statement.{statement}
 use Rattle.report.proofs.results.put_properties.Tie as tie
 
@@ -23,7 +23,7 @@ step : (c : tie.After-known-told Inv-loop μ-loop)
 step c = sym (c .before .type-start .given .1) ∙ c .before .before .before .step-at .ensures
 
 near : (c : tie.After-known-told Inv-loop μ-loop)
-    → PropertyPlaces (c .before .before .before .before .before .before .before .args .s .now) (c .before .type-start .given .0 .0) (c .before .type-start .given .0 .1 .0) (c .before .type-start .given .0 .1 .1 .0) (c .before .type-start .given .0 .1 .1 .1 .0) (c .before .type-start .given .0 .1 .1 .1 .1 .0)
+    → TypeStands (c .before .before .before .before .before .before .before .args .s .now) (c .before .type-start .given .0 .0) (c .before .type-start .given .0 .1 .0)
 near c = property-places _ _ _ _ _ _ _ _ (step c)
 
 loop-holds : tie.Need-loop-holds Inv-loop μ-loop
@@ -48,13 +48,13 @@ knows-ptype-requires : tie.Need-knows-ptype-requires Inv-loop μ-loop
 knows-ptype-requires c κs = search needs
 
 put-property-requires : tie.Need-put-property-requires Inv-loop μ-loop
-put-property-requires c κs = writing-room _ _ _ _ _ _ _ _ (c .before .before .before .before .before .before .before .loop .inv) _ _ _ _ _ _ (step (c .before .before .before)) (c .before .before .before .before .before .before .before .before .before .before .pre)
+put-property-requires c κs = search needs
 
 loop-less : tie.Need-loop-less Inv-loop μ-loop
 loop-less c = omega (arith, writing-further _ _ _ _ _ _ _ _ (c .before .before .before .before .before .before .before .before .before .before .loop .inv) _ _ _ _ _ _ (step (c .before .before .before .before .before .before)))
 
 loop-again : tie.Need-loop-again Inv-loop μ-loop
-loop-again c = writing-more _ _ _ _ _ _ _ _ (c .before .before .before .before .before .before .before .before .before .before .loop .inv) _ _ _ _ _ _ (step (c .before .before .before .before .before .before)) _ (c .before .before .before .before .knows-ptype .ensures) _ _ (c .before .before .put-property .ensures)
+loop-again c = writing-more _ _ _ _ _ _ _ _ (c .before .before .before .before .before .before .before .before .before .before .loop .inv) _ _ _ _ _ _ (step (c .before .before .before .before .before .before)) (c .before .before .before .before .before .before .before .before .before .before .before .before .before .pre) _ (c .before .before .before .before .knows-ptype .ensures) _ _ (c .before .before .put-property .ensures)
 
 enum-told : tie.Need-enum-told Inv-loop μ-loop
 enum-told c = search needs

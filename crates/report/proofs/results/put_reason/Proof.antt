@@ -1,6 +1,6 @@
 -- `report::results::put_reason` meets its contract: the reason that the code finds is the one that the parser reads. Assumes nothing.
 use mathlib.Core.Path.{sym, _∙_}
-use Rattle.report.proofs.Turns.{reason-room, reason-put, reason-absent}
+use Rattle.report.proofs.Turns.{reason-put, reason-absent}
 use borrow.Author.Needs.{needs}
 use Rattle.report.proofs.results.put_reason.Statement.{statement}
 use Rattle.report.proofs.results.put_reason.Tie as tie
@@ -12,7 +12,7 @@ enum-known-start : tie.Need-enum-known-start
 enum-known-start c = search needs
 
 put-reason-requires : tie.Need-put-reason-requires
-put-reason-requires c κs = reason-room _ _ _ _ _ (sym (c .before .before .start .given .1) ∙ c .before .before .before .before .reason-at .ensures) _ (c .before .before .before .before .before .before .before .pre)
+put-reason-requires c κs = search needs
 
 enum-told : tie.Need-enum-told
 enum-told c = search needs
@@ -21,7 +21,8 @@ same-length : tie.Need-same-length
 same-length c = search needs
 
 returns : tie.Need-returns
-returns c = reason-put _ _ _ _ _ (sym (c .before .before .before .before .before .start .given .1) ∙ c .before .before .before .before .before .before .before .reason-at .ensures) _ _ _ _ (c .before .before .put-reason .ensures)
+returns c = reason-put _ _ _ _ _ (sym (c .before .before .before .before .before .start .given .1) ∙ c .before .before .before .before .before .before .before .reason-at .ensures) _ _ _ _
+    (c .before .before .before .before .before .before .before .before .before .before .pre) (c .before .before .put-reason .ensures)
 
 returns-2 : tie.Need-returns-2
 returns-2 c = reason-absent _ _ (sym (c .enum-told .given .1) ∙ c .before .before .reason-at .ensures) _ _

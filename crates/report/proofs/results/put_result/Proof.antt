@@ -5,7 +5,7 @@ use borrow.Author.Needs.{needs}
 use Rattle.resinfo.specs.declared.parts.Method.the-variants.{Read}
 use Rattle.resinfo.specs.Parts.{methodAt}
 use Rattle.resinfo.proofs.PartPlaces.{MethodPlaces, method-places}
-use Rattle.report.proofs.Turns.{no-mark, no-method, turn-room, turn-rest, turn-read}
+use Rattle.report.proofs.Turns.{no-mark, no-method, turn-rest, turn-read}
 use Rattle.report.proofs.results.put_result.Statement.{statement}
 use Rattle.report.proofs.results.put_result.Tie as tie
 
@@ -53,7 +53,7 @@ knows-method-requires : tie.Need-knows-method-requires
 knows-method-requires c κs = search needs
 
 put-method-requires : tie.Need-put-method-requires
-put-method-requires c κs = turn-room _ _ _ (c .before .before .before .before .before .before .before .before .before .mark-end .ensures) (c .before .before .before .before .before .before .before .before .if1 .left) _ _ _ _ _ (found (c .before .before .before .before)) _ (c .before .before .before .before .before .before .before .before .before .before .before .before .pre)
+put-method-requires c κs = search needs
 
 put-details-requires : tie.Need-put-details-requires
 put-details-requires c κs = turn-rest _ _ _ (c .before .before .before .before .before .before .before .before .before .before .before .before .before .mark-end .ensures) (c .before .before .before .before .before .before .before .before .before .before .before .before .if1 .left) _ _ _ _ _ (found (c .before .before .before .before .before .before .before .before)) _ (c .before .before .before .before .before .before .before .before .before .before .before .before .before .before .before .before .pre) _ _ _ (c .before .before .before .put-method .ensures)
@@ -68,7 +68,10 @@ same-length : tie.Need-same-length
 same-length c = search needs
 
 returns-2 : tie.Need-returns-2
-returns-2 c = turn-read _ _ _ (c .before .before .before .before .before .before .before .before .before .before .before .before .before .before .before .before .before .mark-end .ensures) (c .before .before .before .before .before .before .before .before .before .before .before .before .before .before .before .before .if1 .left) _ _ _ _ _ (found (c .before .before .before .before .before .before .before .before .before .before .before .before)) _ (c .before .before .before .before .before .before .before .before .before .knows-method .ensures) _ _ _ _ _ _ (c .before .before .before .before .before .before .before .put-method .ensures) (c .before .before .before .put-details .ensures) _ (c .both .ensures)
+returns-2 c =
+    turn-read _ _ _ (c .before .before .before .before .before .before .before .before .before .before .before .before .before .before .before .before .before .mark-end .ensures) (c .before .before .before .before .before .before .before .before .before .before .before .before .before .before .before .before .if1 .left) _ _ _ _ _ (found (c .before .before .before .before .before .before .before .before .before .before .before .before))
+    _ (c .before .before .before .before .before .before .before .before .before .before .before .before .before .before .before .before .before .before .before .before .pre) _ _ _ (c .before .before .before .before .before .before .before .put-method .ensures)
+    _ (c .before .before .before .before .before .before .before .before .before .knows-method .ensures) _ _ (c .before .before .before .put-details .ensures) _ (c .both .ensures)
 
 returns-3 : tie.Need-returns-3
 returns-3 c = (no-method _ _ _ (c .before .before .before .before .mark-end .ensures) (c .before .before .before .if1 .left) (sym (c .enum-told .given .1) ∙ c .before .before .method-at .ensures), refl)

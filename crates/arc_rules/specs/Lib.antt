@@ -1,0 +1,5 @@
+pub mod Tags
+pub mod Sets
+pub mod Chain
+pub mod Accepted
+pub mod Answers

@@ -1,0 +1,99 @@
+-- Document 01, "The chain": the three kinds of field, and what each says. Assumes nothing: these are definitions.
+use Prim.Native.Char.{code}
+use Prim.Native.Nat.{ℕ}
+use mathlib.Core.Bool.{Bool, true, false, not, cond, _&&_}
+use mathlib.Core.List.{List, [], _∷_}
+use lib.Dec.{eqb, leb}
+use lib.ListN.{length}
+use Rattle.reading.specs.Texts.{bytes, within}
+use Rattle.reading.specs.Parsers.{nothing, Parser, _>>=_, _>>_, give, when, byte, text}
+use Rattle.lexis_rules.specs.Bytes.{alike}
+use Rattle.lexis_rules.specs.Pieces.{digits, decimal}
+use Rattle.lexis_rules.specs.Words.{skip}
+use Rattle.arc_rules.specs.declared.Kind.{Kind}
+use Rattle.arc_rules.specs.declared.Kind.the-variants.{Results, Signature, Seal, Other}
+use Rattle.arc_rules.specs.Tags.{Tag, tags, named, unrepeated, needs, valueNamed}
+
+-- Kinds: ARC-Authentication-Results, ARC-Message-Signature, ARC-Seal
+unfoldable pub kindNamed : List ℕ → Kind
+kindNamed n =
+    elim (alike n (bytes "ARC-Authentication-Results")) [
+      | true ↦ Results
+      | false ↦ (elim (alike n (bytes "ARC-Message-Signature")) [
+        | true ↦ Signature
+        | false ↦ (elim (alike n (bytes "ARC-Seal")) [ true ↦ Seal | false ↦ Other ])
+      ])
+    ]
+
+-- 01, What the library is handed: ARC instances 1 to 50
+abbrev pub firstInstance : ℕ
+firstInstance = 1
+
+abbrev pub lastInstance : ℕ
+lastInstance = 50
+
+-- one or two digits worth 1 to 50
+unfoldable pub isInstance : List ℕ → Bool
+isInstance d = leb (length d) 2 && within firstInstance lastInstance (decimal 0 d)
+
+-- Each body starts with space, lower-case i, "=", one or two digits worth 1 to 50, and ";", with space allowed between
+unfoldable pub instance : Parser ℕ
+instance = do
+  skip
+  byte (code "i")
+  skip
+  byte (code "=")
+  skip
+  d ← text digits
+  when (isInstance d)
+  skip
+  byte (code ";")
+  give (decimal 0 d)
+
+-- cv none, pass and fail in any case: 1, 2 and 3; 0 for anything else
+unfoldable pub chainValue : List ℕ → ℕ
+chainValue v = cond (alike v (bytes "none")) 1 (cond (alike v (bytes "pass")) 2 (cond (alike v (bytes "fail")) 3 0))
+
+-- what a field says: its instance, and a seal's chain value (0 for the other kinds)
+pub record Said : Type 0 where
+  pub instance : ℕ
+  pub cv : ℕ
+
+-- none twice, no second i
+unfoldable pub sound : List Tag → Bool
+sound ts = unrepeated ts && not (named ts (bytes "i"))
+
+-- A signature needs a, b, bh, d, h and s
+abbrev pub signatureTags : List (List ℕ)
+signatureTags = bytes "a" ∷ bytes "b" ∷ bytes "bh" ∷ bytes "d" ∷ bytes "h" ∷ bytes "s" ∷ []
+
+unfoldable pub isSignature : List Tag → Bool
+isSignature ts = sound ts && needs signatureTags ts
+
+-- A seal needs a, b, d, s and cv, has no h, and its cv is none, pass or fail in any case
+abbrev pub sealTags : List (List ℕ)
+sealTags = bytes "a" ∷ bytes "b" ∷ bytes "d" ∷ bytes "s" ∷ bytes "cv" ∷ []
+
+unfoldable pub isSeal : List Tag → Bool
+isSeal ts =
+    sound ts
+    && needs sealTags ts
+    && not (named ts (bytes "h"))
+    && not (eqb (chainValue (valueNamed (bytes "cv") ts)) 0)
+
+-- For the first kind nothing after that is read. For the others a DKIM tag list follows
+unfoldable pub says : Kind → Parser Said
+says Results = do
+  i ← instance
+  give (record { instance = i; cv = 0 })
+says Signature = do
+  i ← instance
+  ts ← tags
+  when (isSignature ts)
+  give (record { instance = i; cv = 0 })
+says Seal = do
+  i ← instance
+  ts ← tags
+  when (isSeal ts)
+  give (record { instance = i; cv = chainValue (valueNamed (bytes "cv") ts) })
+says Other = λ xs. nothing

@@ -1,0 +1,10 @@
+pub mod Entries
+pub mod ListExamples
+pub mod EntryBytes
+pub mod Feeds
+pub mod OwnLists
+pub mod Examples
+pub mod Utf8Examples
+pub mod SpelledExamples
+pub mod Parts
+pub mod Headlines

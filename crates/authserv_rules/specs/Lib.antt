@@ -1,0 +1,6 @@
+pub mod Utf8
+pub mod OwnList
+pub mod Identifier
+pub mod Version
+pub mod Listed
+pub mod Spelled

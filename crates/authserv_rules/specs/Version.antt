@@ -1,0 +1,11 @@
+-- Document 01, "Identifier and header version": the header version. Assumes nothing: these are definitions.
+use Prim.Native.Nat.{ℕ}
+use mathlib.Core.List.{List}
+use Rattle.reading.specs.Parsers.{Parser, _>>=_, _>>_}
+use Rattle.lexis_rules.specs.Words.{gap, readDigits}
+
+-- After space that isn't empty, a digit run is the header version
+unfoldable pub stated : Parser (List ℕ)
+stated = do
+  gap
+  readDigits

@@ -1,0 +1,1 @@
+// Lines, fields and names of a header block: definitions and laws; no code.

@@ -1,0 +1,5 @@
+pub mod Examples
+pub mod WholeExamples
+pub mod Firsts
+pub mod Given
+pub mod Headlines

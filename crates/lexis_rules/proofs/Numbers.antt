@@ -1,0 +1,228 @@
+-- A digit run's number is 1 exactly where the digits that count are the digit 1 alone: by induction on the run, whose number no further
+-- digit makes smaller. Assumes nothing.
+use Prim.Native.Char.{code}
+use Prim.Native.Nat.{ℕ, zero, suc, _+_, _-_, _*_, _≤_, _<_, zero-le, suc-le-suc}
+use native.Mathlib.Omega.{arith}
+use mathlib.Core.Path.{_≡_, refl, sym, ap, _∙_}
+use mathlib.Core.Bool.{Bool, true, false, cond, _&&_}
+use mathlib.Core.List.{List, [], _∷_}
+use lib.Dec.{eqb, leb}
+use lib.ListN.{length, getD, take, drop}
+use lib.Seq.{getD-drop, take-take}
+use borrow.Author.Tests.{eq-eqb, ne-eqb, eqb-true, eqb-false, leb-true}
+use Rattle.sequences.proofs.Booleans.{both, and-left}
+use Rattle.sequences.proofs.Lists.{drop-take}
+use Rattle.reading.specs.Texts.{within}
+use Rattle.reading.specs.Readers.{run}
+use Rattle.reading.proofs.Readers.{run-more, run-take}
+use Rattle.lexis_rules.specs.declared.Class.the-variants.{Digit, Zero}
+use Rattle.lexis_rules.specs.declared.Digits.{Digits}
+use Rattle.lexis_rules.specs.Bytes.{inClass}
+use Rattle.lexis_rules.specs.Pieces.{digits, zeros, leading, decimal, isOne}
+use Rattle.lexis_rules.specs.Words.{counted}
+use Rattle.lexis_rules.specs.Answers.{digitsAt}
+
+digit-low : (x : ℕ) → inClass Digit x ≡ true → 48 ≤ x
+unfolding inClass within
+digit-low x e = leb-true 48 x (and-left (leb 48 x) (leb x 57) e)
+
+-- ==== one digit more
+
+module _ (x : ℕ) (ys : List ℕ) where
+  pub decimal-more : (n : ℕ) → inClass Digit x ≡ true → decimal n (x ∷ ys) ≡ decimal (n * 10 + (x - 48)) ys
+  unfolding decimal
+  decimal-more n e = rw (decimal, e)
+
+  pub decimal-stop : (n : ℕ) → inClass Digit x ≡ false → decimal n (x ∷ ys) ≡ n
+  unfolding decimal
+  decimal-stop n e = rw (decimal, e)
+
+  run-stop : (c : ℕ → Bool) → c x ≡ false → run c (x ∷ ys) ≡ 0
+  unfolding run
+  run-stop c e = rw (run, e)
+
+decimal-grows : (n : ℕ) (xs : List ℕ) → n ≤ decimal n xs
+unfolding decimal
+decimal-grows n [] = omega arith
+decimal-grows n (x ∷ xs) = go (inClass Digit x) refl (decimal-grows (n * 10 + (x - 48)) xs)
+  where
+    go : (t : Bool) → inClass Digit x ≡ t → n * 10 + (x - 48) ≤ decimal (n * 10 + (x - 48)) xs → n ≤ decimal n (x ∷ xs)
+    go true e ih = omega (arith, decimal-more x xs n e)
+    go false e ih = omega (arith, decimal-stop x xs n e)
+
+-- no digit: the number stays
+decimal-end : (n : ℕ) (xs : List ℕ) → digits xs ≡ 0 → decimal n xs ≡ n
+unfolding decimal
+decimal-end n [] e = refl
+decimal-end n (x ∷ xs) e = go (inClass Digit x) refl
+  where
+    go : (t : Bool) → inClass Digit x ≡ t → decimal n (x ∷ xs) ≡ n
+    go true q = absurd (omega (arith, run-more (inClass Digit) x xs q))
+    go false q = decimal-stop x xs n q
+
+-- a digit: the number is ten times as large at least
+decimal-tens : (n : ℕ) (xs : List ℕ) (m : ℕ) → digits xs ≡ suc m → n * 10 ≤ decimal n xs
+unfolding run
+decimal-tens n [] m e = absurd (omega arith)
+decimal-tens n (x ∷ xs) m e = go (inClass Digit x) refl
+  where
+    go : (t : Bool) → inClass Digit x ≡ t → n * 10 ≤ decimal n (x ∷ xs)
+    go true q = omega (arith, decimal-more x xs n q, decimal-grows (n * 10 + (x - 48)) xs)
+    go false q = absurd (omega (arith, run-stop x xs (inClass Digit) q))
+
+-- ==== leading zeros
+
+zero-is : (x : ℕ) → inClass Zero x ≡ true → x ≡ 48
+unfolding inClass
+zero-is x e = eqb-true x 48 e
+
+zero-digit : (x : ℕ) → inClass Zero x ≡ true → inClass Digit x ≡ true
+unfolding inClass within
+zero-digit x e = rw (zero-is x e)
+
+zeros-le : (xs : List ℕ) → zeros xs ≤ digits xs
+unfolding run
+zeros-le [] = zero-le
+zeros-le (x ∷ xs) = go (inClass Zero x) refl (zeros-le xs)
+  where
+    go : (t : Bool) → inClass Zero x ≡ t → zeros xs ≤ digits xs → zeros (x ∷ xs) ≤ digits (x ∷ xs)
+    go true e ih = omega (arith, run-more (inClass Zero) x xs e, run-more (inClass Digit) x xs (zero-digit x e))
+    go false e ih = omega (arith, run-stop x xs (inClass Zero) e)
+
+leading-is : (xs : List ℕ) (z d : ℕ) → zeros xs ≡ z → digits xs ≡ d → leading xs ≡ cond (eqb z d) (d - 1) z
+unfolding leading
+leading-is xs z d p q = rw (p, q)
+
+-- the digits that count, d in all less k, are the digit 1 alone
+abbrev alone : List ℕ → ℕ → ℕ → Bool
+alone xs d k = eqb (d - k) 1 && eqb (getD xs k 0) 49
+
+abbrev One : List ℕ → Type 0
+One xs = isOne xs ≡ alone xs (digits xs) (leading xs)
+
+module _ (x : ℕ) (ys : List ℕ) where
+  -- no digit
+  no-digit : inClass Digit x ≡ false → One (x ∷ ys)
+  no-digit e =
+      let d : digits (x ∷ ys) ≡ 0 = run-stop x ys (inClass Digit) e in
+      let z : zeros (x ∷ ys) ≡ 0 = omega (arith, zeros-le (x ∷ ys)) in
+      rw (leading-is (x ∷ ys) 0 0 z d, d, decimal-stop x ys 0 e)
+
+  -- a zero that stands alone
+  zero-alone : inClass Zero x ≡ true → digits ys ≡ 0 → One (x ∷ ys)
+  zero-alone z n =
+      let e = zero-digit x z in
+      let d : digits (x ∷ ys) ≡ 1 = run-more (inClass Digit) x ys e ∙ ap suc n in
+      let o : zeros (x ∷ ys) ≡ 1 = omega (arith, run-more (inClass Zero) x ys z, zeros-le (x ∷ ys)) in
+      let w : 0 * 10 + (x - 48) ≡ 0 = omega (arith, zero-is x z) in
+      rw (leading-is (x ∷ ys) 1 1 o d, d, decimal-more x ys 0 e, w, decimal-end 0 ys n, zero-is x z)
+
+  -- a zero in front of other digits
+  zero-more : inClass Zero x ≡ true → (m : ℕ) → digits ys ≡ suc m → One ys → One (x ∷ ys)
+  zero-more z m n ih =
+      let e = zero-digit x z in
+      let d : digits (x ∷ ys) ≡ suc (digits ys) = run-more (inClass Digit) x ys e in
+      let w : 0 * 10 + (x - 48) ≡ 0 = omega (arith, zero-is x z) in
+      let l : leading (x ∷ ys) ≡ suc (leading ys) = shift (zeros ys) refl in
+      let j : suc (digits ys) - suc (leading ys) ≡ digits ys - leading ys = omega arith in
+      rw (decimal-more x ys 0 e, w, l, d, j) ih
+    where
+      next : (k : ℕ) (t : Bool) → eqb k (suc m) ≡ t → cond (eqb (suc k) (suc (suc m))) (suc (suc m) - 1) (suc k) ≡ suc (cond (eqb k (suc m)) (suc m - 1) k)
+      next k true q = rw (eq-eqb (suc k) (suc (suc m)) (ap suc (eqb-true k (suc m) q)), q) (omega arith)
+      next k false q = rw (ne-eqb (suc k) (suc (suc m)) (λ i. eqb-false k (suc m) q (omega arith)), q)
+
+      shift : (k : ℕ) → zeros ys ≡ k → leading (x ∷ ys) ≡ suc (leading ys)
+      shift k q =
+          leading-is (x ∷ ys) (suc k) (suc (suc m)) (run-more (inClass Zero) x ys z ∙ ap suc q) (run-more (inClass Digit) x ys (zero-digit x z) ∙ ap suc n)
+          ∙ (next k (eqb k (suc m)) refl ∙ ap suc (sym (leading-is ys k (suc m) q n)))
+
+  -- a digit that counts: alone, or in front of others
+  digit-first : inClass Digit x ≡ true → inClass Zero x ≡ false → One (x ∷ ys)
+  unfolding inClass
+  digit-first e z =
+      let d : digits (x ∷ ys) ≡ suc (digits ys) = run-more (inClass Digit) x ys e in
+      let o : zeros (x ∷ ys) ≡ 0 = run-stop x ys (inClass Zero) z in
+      let l : leading (x ∷ ys) ≡ 0 = leading-is (x ∷ ys) 0 (suc (digits ys)) o d ∙ rw (ne-eqb 0 (suc (digits ys)) (λ i. omega arith)) in
+      let w : 0 * 10 + (x - 48) ≡ x - 48 = omega arith in
+      rw (decimal-more x ys 0 e, w, l, d) (go (digits ys) refl)
+    where
+      low : 48 ≤ x
+      low = digit-low x e
+
+      above : 1 ≤ x - 48
+      above = omega (arith, low, eqb-false x 48 z)
+
+      one : (t : Bool) → eqb x 49 ≡ t → eqb (x - 48) 1 ≡ t
+      one true q = eq-eqb (x - 48) 1 (omega (arith, eqb-true x 49 q))
+      one false q = ne-eqb (x - 48) 1 (λ i. eqb-false x 49 q (omega (arith, low)))
+
+      go : (m : ℕ) → digits ys ≡ m → eqb (decimal (x - 48) ys) 1 ≡ (eqb (suc m - 0) 1 && eqb x 49)
+      go zero n = rw (decimal-end (x - 48) ys n) (one (eqb x 49) refl)
+      go (suc m) n =
+          let f : eqb (suc (suc m) - 0) 1 ≡ false = ne-eqb (suc (suc m) - 0) 1 (λ i. omega arith) in
+          rw f (ne-eqb (decimal (x - 48) ys) 1 (λ i. omega (arith, decimal-tens (x - 48) ys m n, above)))
+
+pub one-is : (xs : List ℕ) → One xs
+unfolding run decimal leading
+one-is [] = refl
+one-is (x ∷ xs) = go (inClass Digit x) (inClass Zero x) refl refl (one-is xs)
+  where
+    zero-first : inClass Zero x ≡ true → One xs → (m : ℕ) → digits xs ≡ m → One (x ∷ xs)
+    zero-first z ih zero n = zero-alone x xs z n
+    zero-first z ih (suc m) n = zero-more x xs z m n ih
+
+    go : (t u : Bool) → inClass Digit x ≡ t → inClass Zero x ≡ u → One xs → One (x ∷ xs)
+    go false u e z ih = no-digit x xs e
+    go true true e z ih = zero-first z ih (digits xs) refl
+    go true false e z ih = digit-first x xs e z
+
+-- the digits that count of a run are those of its own bytes
+pub counted-text : (xs : List ℕ) (n : ℕ) → digits xs ≡ suc n → counted (take (suc n) xs) ≡ take (digits xs - leading xs) (drop (leading xs) xs)
+unfolding counted
+counted-text xs n e =
+    let p = take (suc n) xs in
+    let d : digits p ≡ suc n = run-take (inClass Digit) (suc n) xs (omega arith) ∙ e in
+    let z : zeros p ≡ zeros xs = run-take (inClass Zero) (suc n) xs (omega (arith, zeros-le xs)) in
+    let k : leading p ≡ leading xs = leading-is p (zeros xs) (suc n) z d ∙ sym (leading-is xs (zeros xs) (suc n) refl e) in
+    rw (d, k, e, drop-take (leading xs) (suc n) xs) (take-take (suc n - leading xs) (suc n - leading xs) (drop (leading xs) xs) (omega arith))
+
+-- ==== as the code finds them
+
+module _ (s : List ℕ) (at e : ℕ) (d : e ≡ at + digits (drop at s)) where
+  module _ (z : ℕ) (q : z ≡ at + zeros (drop at s)) where
+    pub counted-first : (z ≡ e → ⊥) → z ≡ at + leading (drop at s)
+    counted-first ne =
+        let n : eqb (zeros (drop at s)) (digits (drop at s)) ≡ false = ne-eqb (zeros (drop at s)) (digits (drop at s)) (λ i. ne (omega arith)) in
+        q ∙ ap (λ (k : ℕ). at + k) (sym (leading-is (drop at s) _ _ refl refl ∙ rw n))
+
+    module _ (i : z ≡ e) where
+      all : leading (drop at s) ≡ digits (drop at s) - 1
+      all =
+          let n : eqb (zeros (drop at s)) (digits (drop at s)) ≡ true = eq-eqb (zeros (drop at s)) (digits (drop at s)) (omega arith) in
+          leading-is (drop at s) _ _ refl refl ∙ rw n
+
+      pub counted-none : e ≡ at → at ≡ at + leading (drop at s)
+      counted-none j = omega (arith, all)
+
+      pub counted-last : (e ≡ at → ⊥) → e - 1 ≡ at + leading (drop at s)
+      counted-last ne = omega (arith, all)
+
+  pub digits-are : (b : ℕ) → b ≡ at + leading (drop at s) → (o : Bool) → o ≡ (eqb (e - b) 1 && eqb (getD (drop b s) 0 0) 49)
+      → _≡_ {A = Digits} (record { start = b; end = e; one = o }) (digitsAt s at)
+  unfolding digitsAt
+  digits-are b p o q =
+      let j : e - b ≡ digits (drop at s) - leading (drop at s) = omega arith in
+      let g : getD (drop b s) 0 0 ≡ getD (drop at s) (leading (drop at s)) 0 = getD-drop b s 0 0 ∙ (ap (λ (k : ℕ). getD s k 0) (omega arith) ∙ sym (getD-drop at s (leading (drop at s)) 0)) in
+      let h : o ≡ isOne (drop at s) = q ∙ (rw (j, g) (sym (one-is (drop at s)))) in
+      rw (p, d, h)
+
+-- one digit, or not
+module _ (s : List ℕ) (b e : ℕ) where
+  pub one-digit : e - b ≡ 1 → (r : Bool) → r ≡ eqb (getD (drop b s) 0 0) 49 → r ≡ (eqb (e - b) 1 && eqb (getD (drop b s) 0 0) 49)
+  one-digit h r q = rw (eq-eqb (e - b) 1 h) q
+
+  pub not-one-digit : (e - b ≡ 1 → ⊥) → false ≡ (eqb (e - b) 1 && eqb (getD (drop b s) 0 0) 49)
+  not-one-digit h = rw (ne-eqb (e - b) 1 h)
+
+  pub no-digits : e ≤ b → false ≡ (eqb (e - b) 1 && eqb (getD (drop b s) 0 0) 49)
+  no-digits h = not-one-digit (λ i. omega arith)

@@ -1,0 +1,5 @@
+pub mod Limits
+pub mod Bytes
+pub mod Pieces
+pub mod Words
+pub mod Answers

@@ -1,0 +1,5 @@
+pub mod Sequences
+pub mod EntrySteps
+pub mod Feeds
+pub mod Spelt
+pub mod Owners

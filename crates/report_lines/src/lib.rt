@@ -1,0 +1,300 @@
+// The lines of a report, each written into a lent buffer: `put_id` that of the identifier, `put_version` of a header version, `put_none` of
+// the word none, `put_method` of a method and its result, `put_reason` of a reason, `put_property` of a property.
+//
+// A text is told by the place where it starts and the one where it ends, any places: of what would stand past the end nothing is written. A
+// writer is handed a buffer and a place in it, any place (`put_id` writes from the start). It stores as much of the line as there is room
+// for from there on, changes no other byte, and returns the place after the whole line, at most the largest place, which no buffer reaches.
+// Run on an empty buffer it only measures.
+use lexis_rules::Class;
+use values::Value;
+ghost use mathlib.Core.Path.{_≡_};
+ghost use mathlib.Core.List.{[], _∷_, map};
+ghost use Prim.Native.Nat.{_+_, _%_};
+ghost use lib.ListN.{drop};
+ghost use Rattle.sequences.specs.Stored.{Clipped};
+ghost use Rattle.reading.specs.Readers.{run};
+ghost use Rattle.lexis_rules.specs.Bytes.{lower};
+ghost use Rattle.lexis_rules.specs.Words.{quotedText};
+ghost use Rattle.authserv.specs.Answers.{textOf};
+ghost use Rattle.values.specs.Values.{span, valueOf};
+ghost use Rattle.body.specs.Report.{hexDigit, plain, escape, idLine, versionLine, noneLine};
+ghost use Rattle.report_lines.specs.Internal.{partsOf, domainText};
+ghost use Rattle.report_lines.specs.Lines.{valueColumns, methodText, reasonText, propertyText};
+
+// The largest place: no buffer reaches it.
+const LARGEST: usize = 18446744073709551615;
+
+// The bytes from a up to e, as far as they stand inside.
+fn part(s: &[u8], a: usize, e: usize) -> &[u8]
+    ensures { λ r. ⌜ now r ≡ span (now (s .entry)) a e ⌝ }
+{
+    if e <= a {
+        return &s[..0];
+    }
+    if e <= s.len() {
+        return &s[a..e];
+    }
+    if a < s.len() {
+        return &s[a..];
+    }
+    &s[..0]
+}
+
+// The upper-case hex digit of the lower half of a byte.
+fn hex_digit(b: u8) -> u8
+    ensures { λ r. ⌜ r ≡ hexDigit (b % 16) ⌝ }
+{
+    let n = b % 16;
+    if n < 10 {
+        return b'0' + n;
+    }
+    b'A' + (n - 10)
+}
+
+// Whether a byte stands for itself in a text.
+fn is_plain(b: u8) -> bool
+    ensures { λ r. ⌜ r ≡ plain b ⌝ }
+{
+    if b == b'%' {
+        return false;
+    }
+    lexis::in_class(Class::Visible, b)
+}
+
+// A byte, or the percent sign and the two digits that stand for it.
+fn put_escape(b: u8, out: &mut [u8], to: usize) -> usize
+    ensures { λ r. ⌜ Clipped (now (out .entry)) to (escape (b ∷ [])) (now (out .exit)) r ⌝ }
+{
+    if is_plain(b) {
+        return texts::put_byte(b, out, to);
+    }
+    let n = texts::put_byte(b'%', out, to);
+    let m = texts::put_byte(hex_digit(b / 16), out, n);
+    texts::put_byte(hex_digit(b), out, m)
+}
+
+// The end of the bytes that stand for themselves.
+fn plain_end(text: &[u8], at: usize) -> usize
+    ensures { λ r. ⌜ r ≡ at + run plain (drop at (now (text .entry))) ⌝ }
+{
+    let mut i = at;
+    while i < text.len() {
+        if is_plain(text[i]) {
+            i += 1;
+        } else {
+            return i;
+        }
+    }
+    i
+}
+
+// A text: bytes that stand for themselves at once, the others one at a time.
+fn put_escaped(text: &[u8], out: &mut [u8], to: usize) -> usize
+    ensures { λ r. ⌜ Clipped (now (out .entry)) to (escape (now (text .entry))) (now (out .exit)) r ⌝ }
+{
+    let mut i: usize = 0;
+    let mut n = to;
+    loop {
+        let e = plain_end(text, i);
+        n = texts::put_part(&text[i..e], out, n);
+        if e == text.len() {
+            return n;
+        }
+        n = put_escape(text[e], out, n);
+        i = e + 1;
+    }
+}
+
+// The text of the quoted string that starts at a place.
+fn put_quoted(s: &[u8], at: usize, out: &mut [u8], to: usize) -> usize
+    ensures { λ r. ⌜ Clipped (now (out .entry)) to (escape (quotedText (drop at (now (s .entry))))) (now (out .exit)) r ⌝ }
+{
+    if at >= s.len() {
+        return to;
+    }
+    let mut i = at + 1;
+    let mut n = to;
+    loop {
+        let k = lexis::item_at(s, i, Class::Quoted);
+        if k == 0 {
+            return n;
+        }
+        n = put_escape(reading::byte(s, i, k - 1), out, n);
+        i += k;
+    }
+}
+
+// The text of a value from a up to e, quoted or not.
+fn put_value_text(s: &[u8], a: usize, e: usize, quoted: bool, out: &mut [u8], to: usize) -> usize
+    ensures { λ r. ⌜ Clipped (now (out .entry)) to (escape (textOf (now (s .entry)) a e quoted)) (now (out .exit)) r ⌝ }
+{
+    if quoted {
+        return put_quoted(s, a, out, to);
+    }
+    put_escaped(part(s, a, e), out, to)
+}
+
+// A tab and the keyword from a up to e in lower case.
+fn put_keyword(s: &[u8], a: usize, e: usize, out: &mut [u8], to: usize) -> usize
+    ensures { λ r. ⌜ Clipped (now (out .entry)) to (9 ∷ map lower (span (now (s .entry)) a e)) (now (out .exit)) r ⌝ }
+{
+    let n = texts::put_byte(b'\t', out, to);
+    let k = texts::put_lower(part(s, a, e), out, n);
+    if k < LARGEST - n {
+        return n + k;
+    }
+    LARGEST
+}
+
+// What is written of a property value: its letter, its text from start up to end, and where it is signed "@" and the domain behind end up
+// to last.
+struct Parts {
+    letter: u8,
+    start: usize,
+    end: usize,
+    quoted: bool,
+    signed: bool,
+    last: usize,
+}
+
+// The parts of a property value by its kind.
+fn parts_of(v: Value) -> Parts
+    ensures { λ r. ⌜ r ≡ partsOf v ⌝ }
+{
+    match v {
+        Value::Token { start, end } => Parts {
+            letter: b't',
+            start,
+            end,
+            quoted: false,
+            signed: false,
+            last: end,
+        },
+        Value::Quoted { start, end } => Parts {
+            letter: b'q',
+            start,
+            end,
+            quoted: true,
+            signed: false,
+            last: end,
+        },
+        Value::Mailbox {
+            start,
+            sign,
+            end,
+            quoted,
+        } => Parts {
+            letter: b'm',
+            start,
+            end: sign,
+            quoted,
+            signed: true,
+            last: end,
+        },
+        Value::AtDomain { start, end } => Parts {
+            letter: b'a',
+            start,
+            end: start,
+            quoted: false,
+            signed: true,
+            last: end,
+        },
+    }
+}
+
+// Where a value is signed, "@" and the domain behind its place up to e, and else nothing.
+fn put_domain(s: &[u8], signed: bool, sign: usize, e: usize, out: &mut [u8], to: usize) -> usize
+    ensures { λ r. ⌜ Clipped (now (out .entry)) to (escape (domainText (now (s .entry)) signed sign e)) (now (out .exit)) r ⌝ }
+{
+    if signed {
+        let n = texts::put_byte(b'@', out, to);
+        if sign < e {
+            return put_escaped(part(s, sign + 1, e), out, n);
+        }
+        return n;
+    }
+    to
+}
+
+// A tab, the letter of a property value, a tab, its text and LF.
+fn put_value(s: &[u8], v: Value, out: &mut [u8], to: usize) -> usize
+    ensures { λ r. ⌜ Clipped (now (out .entry)) to (valueColumns (valueOf (now (s .entry)) v)) (now (out .exit)) r ⌝ }
+{
+    let p = parts_of(v);
+    let kind = [b'\t', p.letter, b'\t'];
+    let n = texts::put_part(&kind, out, to);
+    let m = put_value_text(s, p.start, p.end, p.quoted, out, n);
+    let k = put_domain(s, p.signed, p.end, p.last, out, m);
+    texts::put_byte(b'\n', out, k)
+}
+
+// The line of a property whose ptype stands from a up to e and whose name from b up to f.
+pub fn put_property(
+    s: &[u8],
+    a: usize,
+    e: usize,
+    b: usize,
+    f: usize,
+    v: Value,
+    out: &mut [u8],
+    to: usize,
+) -> usize
+    ensures { λ r. ⌜ Clipped (now (out .entry)) to (propertyText (now (s .entry)) a e b f v) (now (out .exit)) r ⌝ }
+{
+    let n = texts::put_byte(b'p', out, to);
+    let m = put_keyword(s, a, e, out, n);
+    let k = put_keyword(s, b, f, out, m);
+    put_value(s, v, out, k)
+}
+
+// The line of a method from a up to e with its result from b up to f.
+pub fn put_method(
+    s: &[u8],
+    a: usize,
+    e: usize,
+    b: usize,
+    f: usize,
+    out: &mut [u8],
+    to: usize,
+) -> usize
+    ensures { λ r. ⌜ Clipped (now (out .entry)) to (methodText (now (s .entry)) a e b f) (now (out .exit)) r ⌝ }
+{
+    let n = texts::put_byte(b'm', out, to);
+    let m = put_keyword(s, a, e, out, n);
+    let k = put_keyword(s, b, f, out, m);
+    texts::put_byte(b'\n', out, k)
+}
+
+// The line of a reason whose value stands from a up to e, quoted or not.
+pub fn put_reason(s: &[u8], a: usize, e: usize, quoted: bool, out: &mut [u8], to: usize) -> usize
+    ensures { λ r. ⌜ Clipped (now (out .entry)) to (reasonText (now (s .entry)) a e quoted) (now (out .exit)) r ⌝ }
+{
+    let n = texts::put_part(b"r\t", out, to);
+    let m = put_value_text(s, a, e, quoted, out, n);
+    texts::put_byte(b'\n', out, m)
+}
+
+// The line of an identifier that stands from a up to e, quoted or not, over the front of the buffer.
+pub fn put_id(s: &[u8], a: usize, e: usize, quoted: bool, out: &mut [u8]) -> usize
+    ensures { λ r. ⌜ Clipped (now (out .entry)) 0 (idLine (textOf (now (s .entry)) a e quoted)) (now (out .exit)) r ⌝ }
+{
+    let n = texts::put_part(b"id\t", out, 0);
+    let m = put_value_text(s, a, e, quoted, out, n);
+    texts::put_byte(b'\n', out, m)
+}
+
+// The line of a header version by its digits.
+pub fn put_version(digits: &[u8], out: &mut [u8], to: usize) -> usize
+    ensures { λ r. ⌜ Clipped (now (out .entry)) to (versionLine (now (digits .entry))) (now (out .exit)) r ⌝ }
+{
+    let n = texts::put_part(b"v\t", out, to);
+    let m = texts::put_part(digits, out, n);
+    texts::put_byte(b'\n', out, m)
+}
+
+// The line of the word none.
+pub fn put_none(out: &mut [u8], to: usize) -> usize
+    ensures { λ r. ⌜ Clipped (now (out .entry)) to noneLine (now (out .exit)) r ⌝ }
+{
+    texts::put_part(b"none\n", out, to)
+}

@@ -1,0 +1,35 @@
+-- What the code finds by places is what the grammar's parsers yield there, with its texts: one theorem for each reader. Assumes nothing.
+use Prim.Native.Nat.{ℕ}
+use mathlib.Core.Path.{_≡_}
+use mathlib.Core.Bool.{true}
+use mathlib.Core.List.{List}
+use lib.ListN.{drop}
+use Rattle.reading.specs.Places.{from}
+use Rattle.resinfo_rules.specs.Results.{methodspec, reason, property}
+use Rattle.resinfo.specs.declared.Step.the-variants as step
+use Rattle.resinfo.specs.Parts.{methodAt, methodGot, told, reasonAt, reasonGot, labelAt, labelGot, names}
+use Rattle.resinfo.specs.Steps.{closes, stepAt, propertyGot}
+use Rattle.resinfo.proofs.Methods as methods
+use Rattle.resinfo.proofs.Reasons as reasons
+use Rattle.resinfo.proofs.Labels as labels
+use Rattle.resinfo.proofs.Steps as steps
+
+-- `parts::method_at`: a method and its result, and of its version whether it is 1
+pub method-got : (s : List ℕ) (at : ℕ) → methodGot s (methodAt s at) ≡ told (from methodspec s at)
+method-got = methods.method-got
+
+-- `parts::reason_at`: a reason
+pub reason-got : (s : List ℕ) (at : ℕ) → reasonGot s (reasonAt s at) ≡ from reason s at
+reason-got = reasons.reason-got
+
+-- `parts::label_at`: ptype and property
+pub label-got : (s : List ℕ) (at : ℕ) → labelGot s (labelAt s at) ≡ from names s at
+label-got = labels.label-got
+
+-- `step_at`: a whole property
+pub step-got : (s : List ℕ) (at : ℕ) → propertyGot s (stepAt s at) ≡ from property s at
+step-got = steps.step-got
+
+-- and where it says that the result is done, the end or ";" comes after the longest space
+pub step-done : (s : List ℕ) (at : ℕ) → step.Done ≡ stepAt s at → closes (drop at s) ≡ true
+step-done = steps.step-done

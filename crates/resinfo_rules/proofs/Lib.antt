@@ -1,0 +1,7 @@
+pub mod Opened
+pub mod Following
+pub mod Values
+pub mod Results
+pub mod ValueExamples
+pub mod ResultExamples
+pub mod TableExamples

@@ -1,0 +1,1 @@
+// One result of a body and the table of methods: definitions and laws; no code.

@@ -1,0 +1,34 @@
+-- The definitions at worked examples, computed. Assumes nothing.
+use Prim.Native.Nat.{min}
+use mathlib.Core.Path.{_≡_, refl}
+use mathlib.Core.List.{[], _∷_}
+use Rattle.reading.specs.Texts.{bytes, within}
+use Rattle.reading.proofs.Cases.{case, Says, copies}
+use Rattle.sampling.specs.Samples.{sums, adler, changed, number, digits, plain, shown}
+
+-- the sums of nothing, of one byte, of "Wikipedia", and of so many bytes that both halves pass 65521
+sum : Says adler (case [] 1 ∷ case (bytes "a") 6422626 ∷ case (bytes "Wikipedia") 300286872 ∷ case (copies 300 255) 3104778980 ∷ [])
+unfolding sums
+sum = refl
+
+count : Says changed (case [] 0 ∷ case (170 ∷ 171 ∷ 170 ∷ 0 ∷ []) 2 ∷ case (copies 20 170) 0 ∷ case (copies 20 169) 20 ∷ [])
+unfolding changed
+count = refl
+
+-- a byte before "0" counts 0, the others by their distance from it
+told : Says (number 0) (case [] 0 ∷ case (bytes "00417") 417 ∷ case (bytes "1-2") 102 ∷ case (bytes "1:a") 249 ∷ [])
+unfolding number
+told = refl
+
+cut : min (number 0 (bytes "65541")) 65540 ∷ min (number 0 (bytes "65539")) 65540 ∷ [] ≡ 65540 ∷ 65539 ∷ []
+unfolding number
+cut = refl
+
+values : Says digits (case [] [] ∷ case (bytes "-12") [] ∷ case (bytes "0129") (0 ∷ 1 ∷ 2 ∷ 9 ∷ []) ∷ case (bytes "12:3") (1 ∷ 2 ∷ []) ∷ [])
+unfolding digits within
+values = refl
+
+-- the bytes on both sides of each edge
+text : Says shown (case [] [] ∷ case (bytes "a b%~") (bytes "a%20b%25~") ∷ case (0 ∷ 32 ∷ 33 ∷ 126 ∷ 127 ∷ 175 ∷ 250 ∷ []) (bytes "%00%20!~%7f%af%fa") ∷ [])
+unfolding shown plain within
+text = refl

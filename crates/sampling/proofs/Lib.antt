@@ -1,0 +1,4 @@
+pub mod Sums
+pub mod Numbers
+pub mod Fills
+pub mod Examples

@@ -1,0 +1,4 @@
+pub mod Ordering
+pub mod Halving
+pub mod TagLists
+pub mod Collecting

@@ -1,0 +1,25 @@
+-- `taglist::cv_after` meets its contract: the value counts where the name is cv. Assumes nothing.
+use borrow.Author.Needs.{needs}
+use Rattle.taglist.proofs.TagLists.{cv-here, cv-before}
+use Rattle.taglist.proofs.cv_after.Statement.{statement}
+use Rattle.taglist.proofs.cv_after.Tie as tie
+
+slice-aggregate-is-name : tie.Need-slice-aggregate-is-name
+slice-aggregate-is-name c = search needs
+
+is-name-requires : tie.Need-is-name-requires
+is-name-requires c κs = search needs
+
+chain-value-of-requires : tie.Need-chain-value-of-requires
+chain-value-of-requires c κs = search needs
+
+returns : tie.Need-returns
+returns c = search cv-here
+
+returns-2 : tie.Need-returns-2
+returns-2 c = search cv-before
+
+pub cv-after-spec : {M : Type 1} → statement M
+cv-after-spec =
+    tie.close
+    (tie.spec slice-aggregate-is-name is-name-requires chain-value-of-requires returns returns-2)

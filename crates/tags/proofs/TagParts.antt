@@ -1,0 +1,341 @@
+-- The parts of a tag as the code finds them: the name, the value by runs of plain bytes, the tag at a place tied to its parser, the value
+-- without the space around it, and its chain value. The premises are the tests of the code in turn. Assumes nothing.
+use Prim.Native.Nat.{ℕ, zero, suc, _+_, _-_, _≤_, _<_, _^_, zero-le, suc-le-suc}
+use native.Mathlib.Nat.{not-suc-le-zero, le-of-suc-le-suc}
+use native.Mathlib.Omega.{arith}
+use mathlib.Core.Path.{_≡_, refl, sym, ap, subst, _∙_}
+use mathlib.Core.Bool.{Bool, true, false, cond, _||_}
+use mathlib.Core.List.{List, [], _∷_}
+use lib.Dec.{eqb, leb}
+use lib.ListN.{length, getD, take, drop, length-drop}
+use lib.Seq.{drop-cons, take-length}
+use mir.Syntax.{w64}
+use mir.Val as machine
+use borrow.Author.Tests.{eq-eqb, ne-eqb, eqb-true, eqb-false, le-leb, lt-leb, leb-true, leb-false}
+use Rattle.sequences.proofs.Booleans.{and-none, or-none}
+use Rattle.reading.specs.Texts.{bytes, oneOf, same, starts, within}
+use Rattle.reading.specs.Readers.{run}
+use Rattle.reading.specs.Parsers.{Got, nothing, got, Parser, _>>=_, _>>_, give, end, byte, taken, text, either}
+use Rattle.reading.specs.Places.{from, Reaches}
+use Rattle.reading.proofs.Sequencing.{byte-is, byte-not, either-first, either-second}
+use Rattle.reading.proofs.Readers.{there-at, run-fits, many-fits}
+use Rattle.reading.proofs.Loops.{many-past-run, run-off, run-out}
+use Rattle.reading.proofs.Places.{took, none-at, at-got, at-none, goes-on, stops, gives, end-at, end-not, byte-at, byte-none, text-at, text-none, taken-at, skipping-at}
+use Rattle.lexis_rules.specs.declared.Class.the-variants.{Keyword, Tag}
+use Rattle.lexis_rules.specs.Bytes.{letter, inClass, alike}
+use Rattle.lexis_rules.specs.Pieces.{item, bareSpace}
+use Rattle.lexis_rules.proofs.Pieces.{item-fits}
+use Rattle.lexis.proofs.Loops.{items-on, items-off}
+use Rattle.tags.specs.declared.Tag as found
+use Rattle.tags.specs.declared.Tag.the-variants.{Read, Missing}
+use Rattle.arc_rules.specs.Tags as tags
+use Rattle.arc_rules.specs.Tags.{skipBare, inTagName, tagName, tagValue, white, solid, trimmed, tag}
+use Rattle.arc_rules.specs.Sets.{chainValue}
+use Rattle.tags.specs.Tags.{span, TagFound, TagPlaces, closedAt, valuedAt, namedAt, tagAt}
+
+-- ==== the name
+
+module _ (b : ℕ) where
+  pub letter-low : b < 65 → false ≡ letter b
+  unfolding letter within
+  letter-low h = rw (lt-leb 65 b h, lt-leb 97 b (omega arith))
+
+  -- above the digits and the hyphen a byte of keywords is a letter
+  pub letter-high : 65 ≤ b → (r : Bool) → r ≡ inClass Keyword b → r ≡ letter b
+  unfolding inClass within
+  letter-high h r e = e ∙ rw (lt-leb b 57 (omega arith), ne-eqb b 45 (λ i. omega arith), and-none (leb 48 b)) (or-none (letter b || false) ∙ or-none (letter b))
+
+module _ (s : List ℕ) (at b : ℕ) (q : b ≡ getD (drop at s) 0 0) (r : Bool) (h : r ≡ letter b) where
+  pub name-there : r ≡ true → (e : ℕ) → e ≡ at + run inTagName (drop at s) → e ≡ at + tagName (drop at s)
+  unfolding tagName
+  name-there t e p = rw (← q, ← h, t) p
+
+  pub name-missing : r ≡ false → at ≡ at + tagName (drop at s)
+  unfolding tagName
+  name-missing t = rw (← q, ← h, t) (omega arith)
+
+-- a name that is there is the whole run
+name-run : (s : List ℕ) (a e : ℕ) → e ≡ a + tagName (drop a s) → (e ≡ a → ⊥) → e ≡ a + run inTagName (drop a s)
+unfolding tagName
+name-run s a e q ne = go (letter (getD (drop a s) 0 0)) refl
+  where
+    go : (t : Bool) → letter (getD (drop a s) 0 0) ≡ t → e ≡ a + run inTagName (drop a s)
+    go true h = rw (tagName, h) at q
+    go false h = let z : e ≡ a + 0 = rw (tagName, h) at q in absurd (ne (omega arith))
+
+-- ==== the value: each turn passes a run of plain bytes, and then another item
+
+-- of a run one byte is taken at a time
+one-byte : (x : ℕ) (xs : List ℕ) → inClass Tag x ≡ true → item Tag (x ∷ xs) ≡ 1
+unfolding item
+one-byte x xs h = rw h
+
+module _ (s : List ℕ) (at i e n : ℕ) (w : Reaches tagValue s at i) (q : e ≡ i + run (inClass Tag) (drop i s)) (z : n ≡ item Tag (drop e s)) where
+  past-run : Reaches tagValue s at e
+  past-run = many-past-run (item Tag) (inClass Tag) one-byte s at i e w q
+
+  pub value-on : Reaches tagValue s at (e + n)
+  value-on = items-on Tag s at e n past-run z
+
+  pub value-off : n ≡ 0 → e ≡ at + tagValue (drop at s)
+  value-off o = items-off Tag s at e n past-run z o
+
+-- ==== the end of a tag
+
+module _ (s : List ℕ) (a e v w : ℕ) where
+  pub closed-end : length s ≤ w → Read a e v w w ≡ closedAt s a e v w
+  unfolding closedAt
+  closed-end h = rw (closedAt, le-leb (length s) w h)
+
+  module _ (h : w < length s) where
+    met : starts (λ b. eqb b 59) (drop w s) ≡ eqb (getD s w 0) 59
+    unfolding starts
+    met = rw (drop-cons s w 0 h)
+
+    pub closed-mark : getD s w 0 ≡ 59 → Read a e v w (w + 1) ≡ closedAt s a e v w
+    unfolding closedAt
+    closed-mark i = rw (closedAt, lt-leb (length s) w h, met, eq-eqb (getD s w 0) 59 i)
+
+    pub closed-not : (getD s w 0 ≡ 59 → ⊥) → Missing ≡ closedAt s a e v w
+    unfolding closedAt
+    closed-not i = rw (closedAt, lt-leb (length s) w h, met, ne-eqb (getD s w 0) 59 i)
+
+-- one parser, or else the other, at a place
+module _ {A : Type 0} (p q : Parser A) (s : List ℕ) (at : ℕ) where
+  either-this : (a : A) (e : ℕ) → got a e ≡ from p s at → got a e ≡ from (either p q) s at
+  either-this a e h = let t = took p s at a e h in at-got (either p q) s at a (t .size) e (either-first p q (drop at s) a (t .size) (t .is)) (t .sum)
+
+  either-that : (x : Got A) → nothing ≡ from p s at → x ≡ from q s at → x ≡ from (either p q) s at
+  unfolding from
+  either-that x n h = rw (either-second p q (drop at s) (none-at p s at n)) h
+
+-- ==== a tag
+
+-- how the parser goes on behind the "="
+abbrev valued : List ℕ → Parser tags.Tag
+valued n = _>>=_ (taken tagValue) (λ v. _>>_ (either end (byte 59)) (give (record { name = n; value = trimmed v })))
+
+module _ (s : List ℕ) (at a : ℕ) (q : a ≡ at + bareSpace (drop at s)) (e : ℕ) (p : e ≡ a + tagName (drop a s)) where
+  missing : nothing ≡ from tag s at → TagFound s at Missing
+  missing h = record { reads = h; stands = tt }
+
+  pub tag-no-name : e ≡ a → TagFound s at Missing
+  unfolding tag
+  tag-no-name z = missing (goes-on skipBare _ s at tt a nothing (skipping-at bareSpace s at a q) (stops (text tagName) _ s a (text-none tagName s a e p z)))
+
+  module _ (ne : e ≡ a → ⊥) (b : ℕ) (w : b ≡ e + bareSpace (drop e s)) (r : Bool) (h : r ≡ eqb (getD (drop b s) 0 0) 61) where
+    pub named : (x : Got tags.Tag) → x ≡ from (_>>_ (byte 61) (valued (span s a e))) s b → x ≡ from tag s at
+    unfolding tag
+    named x j =
+        goes-on skipBare _ s at tt a x (skipping-at bareSpace s at a q)
+        (goes-on (text tagName) _ s a (span s a e) e x (text-at tagName s a e p ne)
+        (goes-on skipBare _ s e tt b x (skipping-at bareSpace s e b w) j))
+
+    pub tag-no-equals : r ≡ false → TagFound s at Missing
+    tag-no-equals t = missing (named nothing (stops (byte 61) _ s b (byte-none 61 s b r h t)))
+
+    module _ (t : r ≡ true) (v : ℕ) (i : v ≡ b + 1 + tagValue (drop (b + 1) s)) where
+      inside : b < length s
+      inside = omega (arith, there-at (λ x. eqb x 61) refl s b 0 (sym h ∙ t))
+
+      valued-inside : v ≤ length s
+      valued-inside = omega (arith, inside, many-fits (item Tag) (item-fits Tag) 0 (drop (b + 1) s) zero-le, length-drop (b + 1) s)
+
+      -- so the tag is what its end makes of it
+      ended : (x : Got tags.Tag)
+          → x ≡ from (_>>_ (either end (byte 59)) (give (record { name = span s a e; value = trimmed (span s (b + 1) v) }))) s v → x ≡ from tag s at
+      ended x j =
+          named x (goes-on (byte 61) _ s b tt (b + 1) x (byte-at 61 s b r h t refl)
+          (goes-on (taken tagValue) _ s (b + 1) (span s (b + 1) v) v x (taken-at tagValue s (b + 1) v i) j))
+
+      places : (x : ℕ) → v ≤ x → x ≤ length s → TagPlaces s at a e (b + 1) v x
+      places x l m =
+          record {
+            after = omega arith;
+            name = omega (arith, ne);
+            named = name-run s a e p ne;
+            equals = omega arith;
+            value = omega arith;
+            end = l;
+            inside = m;
+          }
+
+      read : (x : ℕ) → v ≤ x → x ≤ length s → got tt x ≡ from (either end (byte 59)) s v → TagFound s at (Read a e (b + 1) v x)
+      read x l m j =
+          let n : tags.Tag = record { name = span s a e; value = trimmed (span s (b + 1) v) } in
+          record { reads = ended (got n x) (goes-on (either end (byte 59)) _ s v tt x (got n x) j (gives n s x)); stands = places x l m }
+
+      pub tag-closed : (x : found.Tag) → x ≡ closedAt s a e (b + 1) v → TagFound s at x
+      unfolding closedAt
+      tag-closed x j = rw j (first (leb (length s) v) refl)
+        where
+          second : v < length s → (u : Bool) → starts (λ c. eqb c 59) (drop v s) ≡ u
+              → TagFound s at (elim u [ true ↦ Read a e (b + 1) v (v + 1) | false ↦ Missing ])
+          second l true k =
+              read (v + 1) (omega arith) (omega arith)
+              (either-that end (byte 59) s v _ (end-not s v l) (at-got (byte 59) s v tt 1 (v + 1) (byte-is 59 (drop v s) k) refl))
+          second l false k =
+              missing (ended nothing (stops (either end (byte 59)) _ s v
+              (either-that end (byte 59) s v _ (end-not s v l) (at-none (byte 59) s v (byte-not 59 (drop v s) k)))))
+
+          first : (u : Bool) → leb (length s) v ≡ u
+              → TagFound s at (elim u [ true ↦ Read a e (b + 1) v v | false ↦ (elim (starts (λ c. eqb c 59) (drop v s)) [ true ↦ Read a e (b + 1) v (v + 1) | false ↦ Missing ]) ])
+          first true k = read v (omega arith) valued-inside (either-this end (byte 59) s v tt v (end-at s v (leb-true (length s) v k)))
+          first false k = second (leb-false (length s) v k) (starts (λ c. eqb c 59) (drop v s)) refl
+
+-- ==== the answer of the code, by its tests in turn
+
+module _ (s : List ℕ) (at a : ℕ) (q : a ≡ at + bareSpace (drop at s)) (e : ℕ) (p : e ≡ a + tagName (drop a s)) where
+  at-name : tagAt s at ≡ namedAt s a e
+  at-name = rw (← q, ← p)
+
+  pub at-no-name : e ≡ a → Missing ≡ tagAt s at
+  unfolding namedAt
+  at-no-name z = sym (at-name ∙ rw (namedAt, eq-eqb e a z))
+
+  module _ (ne : e ≡ a → ⊥) (b : ℕ) (w : b ≡ e + bareSpace (drop e s)) (r : Bool) (h : r ≡ eqb (getD (drop b s) 0 0) 61) where
+    at-value : tagAt s at ≡ valuedAt s a e b
+    unfolding namedAt
+    at-value = at-name ∙ rw (namedAt, ne-eqb e a ne, ← w)
+
+    pub at-no-equals : r ≡ false → Missing ≡ tagAt s at
+    unfolding valuedAt
+    at-no-equals t = sym (at-value ∙ rw (valuedAt, ← h, t))
+
+    pub at-closed : r ≡ true → (v : ℕ) → v ≡ b + 1 + tagValue (drop (b + 1) s) → (x : found.Tag) → x ≡ closedAt s a e (b + 1) v → x ≡ tagAt s at
+    unfolding valuedAt
+    at-closed t v i x j = j ∙ sym (at-value ∙ rw (valuedAt, ← h, t, ← i))
+
+module _ (s : List ℕ) (at a : ℕ) (q : a ≡ at + bareSpace (drop at s)) (e : ℕ) (p : e ≡ a + tagName (drop a s)) where
+  found-value : (e ≡ a → ⊥) → (b : ℕ) → b ≡ e + bareSpace (drop e s) → (r : Bool) → r ≡ eqb (getD (drop b s) 0 0) 61 → TagFound s at (tagAt s at)
+  found-value ne b w true h =
+      let x = closedAt s a e (b + 1) (b + 1 + tagValue (drop (b + 1) s)) in
+      tag-closed s at a q e p ne b w true h refl _ refl (tagAt s at) (sym (at-closed s at a q e p ne b w true h refl _ refl x refl))
+  found-value ne b w false h = subst (TagFound s at) (at-no-equals s at a q e p ne b w false h refl) (tag-no-equals s at a q e p ne b w false h refl)
+
+  found-name : (t : Bool) → eqb e a ≡ t → TagFound s at (tagAt s at)
+  found-name true k = let z = eqb-true e a k in subst (TagFound s at) (at-no-name s at a q e p z) (tag-no-name s at a q e p z)
+  found-name false k = found-value (eqb-false e a k) (e + bareSpace (drop e s)) refl _ refl
+
+-- a tag at a place is what the parser of tags reads there, and its parts stand in order
+pub tag-found : (s : List ℕ) (at : ℕ) → TagFound s at (tagAt s at)
+tag-found s at = found-name s at _ refl _ refl _ refl
+
+-- ==== space around a value
+
+module _ (b : ℕ) where
+  pub white-space : b ≡ 32 → true ≡ white b
+  unfolding white oneOf
+  white-space e = rw e
+
+  pub white-tab : b ≡ 9 → true ≡ white b
+  unfolding white oneOf
+  white-tab e = rw e
+
+  pub white-return : b ≡ 13 → true ≡ white b
+  unfolding white oneOf
+  white-return e = rw e
+
+  pub white-feed : (b ≡ 32 → ⊥) → (b ≡ 9 → ⊥) → (b ≡ 13 → ⊥) → eqb b 10 ≡ white b
+  unfolding white oneOf
+  white-feed n m k = rw (ne-eqb b 32 n, ne-eqb b 9 m, ne-eqb b 13 k) (sym (or-none (eqb b 10)))
+
+module _ (v : List ℕ) (i : ℕ) (w : Reaches (run white) v 0 i) where
+  pub white-off : i < length v → (r : Bool) → r ≡ white (getD v i 0) → r ≡ false → i ≡ run white v
+  white-off h r e q = omega (arith, run-off white v 0 i r w h e q)
+
+  pub white-out : length v ≤ i → i ≡ run white v
+  white-out h = omega (arith, run-out white v 0 i w h)
+
+-- up to a byte that is space as far as up to the byte before it; up to another byte that far
+solid-white : (k : ℕ) (xs : List ℕ) → k < length xs → white (getD xs k 0) ≡ true → solid (take (suc k) xs) ≡ solid (take k xs)
+unfolding solid
+solid-white k [] h e = absurd (not-suc-le-zero h)
+solid-white zero (x ∷ xs) h e = rw e
+solid-white (suc k) (x ∷ xs) h e = let ih = solid-white k xs (le-of-suc-le-suc h) e in rw (solid, ih)
+
+solid-other : (k : ℕ) (xs : List ℕ) → k < length xs → white (getD xs k 0) ≡ false → solid (take (suc k) xs) ≡ suc k
+unfolding solid
+solid-other k [] h e = absurd (not-suc-le-zero h)
+solid-other zero (x ∷ xs) h e = rw e
+solid-other (suc k) (x ∷ xs) h e = let ih = solid-other k xs (le-of-suc-le-suc h) e in rw (solid, ih)
+
+pub solid-fits : (xs : List ℕ) → solid xs ≤ length xs
+unfolding solid
+solid-fits [] = zero-le
+solid-fits (x ∷ xs) = go (solid xs) refl (white x) (solid-fits xs)
+  where
+    last : (t : Bool) → cond t 0 1 ≤ suc (length xs)
+    last true = zero-le
+    last false = suc-le-suc zero-le
+
+    go : (n : ℕ) → solid xs ≡ n → (t : Bool) → solid xs ≤ length xs → solid (x ∷ xs) ≤ suc (length xs)
+    go zero e t ih = rw (solid, e) (last (white x))
+    go (suc n) e t ih = rw (solid, e) (omega arith)
+
+-- the space behind e has been passed
+pub record Solid (v : List ℕ) (e : ℕ) : Type 0 where
+  pub inside : e ≤ length v
+  pub same : solid (take e v) ≡ solid v
+
+module _ (v : List ℕ) where
+  pub solid-start : Solid v (length v)
+  solid-start = record { inside = omega arith; same = ap solid (take-length v) }
+
+  module _ (e : ℕ) (w : Solid v e) where
+    pub solid-out : e ≤ 0 → e ≡ solid v
+    unfolding solid
+    solid-out h = let z : e ≡ 0 = omega arith in z ∙ (rw z at (w .same))
+
+    module _ (h : 0 < e) where
+      pub solid-last : e - 1 < length v
+      solid-last = omega (arith, w .inside)
+
+      up : suc (e - 1) ≡ e
+      up = omega arith
+
+      module _ (r : Bool) (q : r ≡ white (getD v (e - 1) 0)) where
+        pub solid-on : r ≡ true → Solid v (e - 1)
+        solid-on t = record { inside = omega (arith, w .inside); same = sym (solid-white (e - 1) v solid-last (sym q ∙ t)) ∙ (rw up (w .same)) }
+
+        pub solid-off : r ≡ false → e ≡ solid v
+        solid-off t = sym up ∙ (sym (solid-other (e - 1) v solid-last (sym q ∙ t)) ∙ (rw up (w .same)))
+
+-- ==== the chain value
+
+module _ (v : List ℕ) (w : ℕ) (q : w ≡ run white v) where
+  pub white-inside : w ≤ length v
+  white-inside = rw q (run-fits white v)
+
+  module _ (e : ℕ) (p : e ≡ solid (span v w (length v))) where
+    rest : e ≡ solid (drop w v)
+    rest = rw (← length-drop w v, take-length (drop w v)) at p
+
+    pub solid-inside : w + e ≤ length v
+    solid-inside = omega (arith, white-inside, solid-fits (drop w v), length-drop w v, rest)
+
+    pub solid-machine : length v < 2 ^ 64 → machine.Fits w64 (w + e)
+    solid-machine l = omega (arith, solid-inside)
+
+    pub trimmed-is : (r : ℕ) → r ≡ chainValue (span v w (w + e)) → r ≡ chainValue (trimmed v)
+    unfolding trimmed
+    trimmed-is r h = let d : w + e - w ≡ solid (drop w v) = omega (arith, rest) in h ∙ ap chainValue (rw (d, q))
+
+module _ (t : List ℕ) (r : Bool) (e : r ≡ alike t (bytes "none")) where
+  pub chain-none : r ≡ true → 1 ≡ chainValue t
+  unfolding chainValue
+  chain-none u = rw (← e, u)
+
+  module _ (f : r ≡ false) (r′ : Bool) (e′ : r′ ≡ alike t (bytes "pass")) where
+    pub chain-pass : r′ ≡ true → 2 ≡ chainValue t
+    unfolding chainValue
+    chain-pass u = rw (← e, f, ← e′, u)
+
+    module _ (f′ : r′ ≡ false) (r″ : Bool) (e″ : r″ ≡ alike t (bytes "fail")) where
+      pub chain-fail : r″ ≡ true → 3 ≡ chainValue t
+      unfolding chainValue
+      chain-fail u = rw (← e, f, ← e′, f′, ← e″, u)
+
+      pub chain-other : r″ ≡ false → 0 ≡ chainValue t
+      unfolding chainValue
+      chain-other u = rw (← e, f, ← e′, f′, ← e″, u)

@@ -1,0 +1,182 @@
+// Texts: compared without case, written in lower case, and those of quoted strings.
+//
+// A writer is handed a buffer and a place in it, any place. It stores as much of the text as there is room for from there on, changes
+// no other byte, and returns the length of the whole text. Run on an empty buffer it only measures.
+use lexis_rules::Class;
+ghost use mathlib.Core.Path.{_≡_};
+ghost use mathlib.Core.List.{[], _∷_, map};
+ghost use mathlib.Core.Logic.{_⊎_};
+ghost use Prim.Native.Nat.{_+_, _≤_};
+ghost use lib.ListN.{length, drop, set};
+ghost use Rattle.sequences.specs.Stored.{Put, Clipped};
+ghost use Rattle.lexis_rules.specs.Bytes.{lower, alike};
+ghost use Rattle.lexis_rules.specs.Words.{quotedText};
+ghost use Rattle.texts.specs.Internal.{Compared};
+
+// The small letter of a capital, and any other byte itself.
+pub fn lower(b: u8) -> u8
+    ensures { λ r. ⌜ r ≡ lower b ⌝ }
+{
+    if b < b'A' {
+        return b;
+    }
+    if b > b'Z' {
+        return b;
+    }
+    b + 32
+}
+
+// Whether one of n bytes differs, but for ASCII case. There is no way out of the loop, so that with n a number in the call it is compiled
+// to a few wide compares.
+fn differ(a: &[u8], b: &[u8], at: usize, n: usize) -> bool
+    requires { ⌜ (at + n ≤ length (now a)) × (at + n ≤ length (now b)) ⌝ }
+    ensures { λ r. ⌜ Compared (now (a .entry)) (now (b .entry)) at n r ⌝ }
+{
+    let mut hit = false;
+    let mut j: usize = 0;
+    while j < n {
+        if lower(a[at + j]) != lower(b[at + j]) {
+            hit = true;
+            j += 1;
+        } else {
+            j += 1;
+        }
+    }
+    hit
+}
+
+// Whether two texts are equal but for ASCII case: sixteen bytes at a time, and then one at a time.
+pub fn same_text(a: &[u8], b: &[u8]) -> bool
+    ensures { λ r. ⌜ r ≡ alike (now (a .entry)) (now (b .entry)) ⌝ }
+{
+    if a.len() != b.len() {
+        return false;
+    }
+    let mut j: usize = 0;
+    loop {
+        let left = reading::rest(a.len(), j);
+        if left < 16 {
+            return same_rest(a, b, j);
+        }
+        if differ(a, b, j, 16) {
+            return false;
+        }
+        j += 16;
+    }
+}
+
+// Whether two texts of one length are equal but for ASCII case from a place on: one byte at a time.
+fn same_rest(a: &[u8], b: &[u8], at: usize) -> bool
+    requires { ⌜ length (now a) ≡ length (now b) ⌝ }
+    ensures { λ r. ⌜ r ≡ alike (drop at (now (a .entry))) (drop at (now (b .entry))) ⌝ }
+{
+    let mut j = at;
+    while j < a.len() {
+        if lower(a[j]) != lower(b[j]) {
+            return false;
+        }
+        j += 1;
+    }
+    true
+}
+
+fn least(a: usize, b: usize) -> usize
+    ensures { λ r. ⌜ (r ≤ a) × (r ≤ b) × ((a ≤ r) ⊎ (b ≤ r)) ⌝ }
+{
+    if a <= b {
+        return a;
+    }
+    b
+}
+
+// Writes a text. The room is measured once, so that the loop has no other test.
+pub fn put_text(part: &[u8], out: &mut [u8], to: usize) -> usize
+    ensures { λ r. ⌜ Put (now (out .entry)) to (now (part .entry)) (now (out .exit)) r ⌝ }
+{
+    let n = least(part.len(), reading::rest(out.len(), to));
+    let mut j: usize = 0;
+    while j < n {
+        out[to + j] = part[j];
+        j += 1;
+    }
+    part.len()
+}
+
+// Writes a text in lower case, in the same way.
+pub fn put_lower(part: &[u8], out: &mut [u8], to: usize) -> usize
+    ensures { λ r. ⌜ Put (now (out .entry)) to (map lower (now (part .entry))) (now (out .exit)) r ⌝ }
+{
+    let n = least(part.len(), reading::rest(out.len(), to));
+    let mut j: usize = 0;
+    while j < n {
+        out[to + j] = lower(part[j]);
+        j += 1;
+    }
+    part.len()
+}
+
+// Stores a byte n places past `to`, where there is such a place.
+fn store(out: &mut [u8], to: usize, n: usize, b: u8)
+    ensures { λ _. ⌜ now (out .exit) ≡ set (now (out .entry)) (to + n) b ⌝ }
+{
+    if to < out.len() {
+        if n < out.len() - to {
+            out[to + n] = b;
+        }
+    }
+}
+
+// The place after the opening quote.
+fn inside(s: &[u8], at: usize) -> usize
+    ensures { λ r. ⌜ drop r (now (s .entry)) ≡ drop 1 (drop at (now (s .entry))) ⌝ }
+{
+    if at < s.len() {
+        return at + 1;
+    }
+    at
+}
+
+// Writes the text of the quoted string that starts at a place.
+pub fn put_quoted(s: &[u8], at: usize, out: &mut [u8], to: usize) -> usize
+    ensures { λ r. ⌜ Put (now (out .entry)) to (quotedText (drop at (now (s .entry)))) (now (out .exit)) r ⌝ }
+{
+    let mut i = inside(s, at);
+    let mut n: usize = 0;
+    loop {
+        let k = lexis::item_at(s, i, Class::Quoted);
+        if k == 0 {
+            return n;
+        }
+        store(out, to, n, reading::byte(s, i, k - 1));
+        n += 1;
+        i += k;
+    }
+}
+
+// The largest place: no buffer reaches it.
+const LARGEST: usize = 18446744073709551615;
+
+// Stores a byte, if there is room, and returns the place after it, at most the largest one.
+pub fn put_byte(b: u8, out: &mut [u8], to: usize) -> usize
+    ensures { λ r. ⌜ Clipped (now (out .entry)) to (b ∷ []) (now (out .exit)) r ⌝ }
+{
+    if to < out.len() {
+        out[to] = b;
+        return to + 1;
+    }
+    if to < LARGEST {
+        return to + 1;
+    }
+    LARGEST
+}
+
+// Stores as much of a text as there is room for, and returns the place after the whole text, at most the largest one.
+pub fn put_part(part: &[u8], out: &mut [u8], to: usize) -> usize
+    ensures { λ r. ⌜ Clipped (now (out .entry)) to (now (part .entry)) (now (out .exit)) r ⌝ }
+{
+    let n = put_text(part, out, to);
+    if n < LARGEST - to {
+        return to + n;
+    }
+    LARGEST
+}

@@ -1,0 +1,97 @@
+-- What the code's answers on property values say (document 01, "Results": A property value is one of four kinds). Assumes nothing: these
+-- are definitions.
+use Prim.Native.Char.{code}
+use Prim.Native.Nat.{ℕ, zero, suc, _+_, _-_}
+use mathlib.Core.Bool.{Bool, true, false, not, cond, _&&_, _||_}
+use mathlib.Core.List.{List, _∷_, _++_}
+use lib.Dec.{eqb, ltb}
+use lib.ListN.{getD, take, drop}
+use Rattle.reading.specs.Readers.{run}
+use Rattle.reading.specs.Parsers.{Got, nothing, got}
+use Rattle.lexis_rules.specs.Pieces.{token, quoted}
+use Rattle.lexis_rules.specs.Words.{quotedText}
+use Rattle.lexis.specs.Internal.{bitsOf}
+use Rattle.values.specs.declared.Value as place
+use Rattle.values.specs.declared.Value.the-variants as at
+use Rattle.values.specs.declared.Found.{Found}
+use Rattle.values.specs.declared.Found.the-variants.{Read, Refused}
+use Rattle.resinfo_rules.specs.Results as results
+use Rattle.resinfo_rules.specs.Results.{Value, alphanumeric, inLocalPart, singleDots, domain}
+
+-- ==== where a property value stands
+
+-- a value whose last part has n bytes from a place on, with the place after it; where that part is empty there is no value
+unfoldable pub upTo : ℕ → ℕ → (ℕ → place.Value) → Found
+upTo a zero v = Refused
+upTo a (suc n) v = Read (v (a + suc n)) (a + suc n)
+
+-- a local part from a place up to its "@", then a domain
+abbrev pub mailboxAt : List ℕ → ℕ → ℕ → Bool → Found
+mailboxAt s start sign q = upTo (sign + 1) (domain (drop (sign + 1) s)) (λ e. at.Mailbox start sign e q)
+
+-- "@" at a place, then a domain, and no local part
+abbrev pub atDomainAt : List ℕ → ℕ → Found
+atDomainAt s sign = upTo (sign + 1) (domain (drop (sign + 1) s)) (λ e. at.AtDomain sign e)
+
+-- a run of bytes of a local part with "@" behind it: the run may have no leading, trailing or doubled dot, and an empty run makes an
+-- at-domain
+unfoldable pub addressAt : List ℕ → ℕ → ℕ → Found
+addressAt s start sign =
+    elim (eqb sign start) [
+      | true ↦ atDomainAt s sign
+      | false ↦ (elim (singleDots true (take (sign - start) (drop start s))) [ true ↦ mailboxAt s start sign false | false ↦ Refused ])
+    ]
+
+-- a quoted string up to a place, or a mailbox where "@" is directly behind it
+unfoldable pub quotedTo : List ℕ → ℕ → ℕ → Found
+quotedTo s start e = elim (eqb (getD (drop e s) 0 0) (code "@")) [ true ↦ mailboxAt s start e true | false ↦ Read (at.Quoted start e) e ]
+
+unfoldable pub quotedAt : List ℕ → ℕ → Found
+quotedAt s start = elim (quoted (drop start s)) [ zero ↦ Refused | suc n ↦ quotedTo s start (start + suc n) ]
+
+abbrev pub tokenAt : List ℕ → ℕ → Found
+tokenAt s start = upTo start (token (drop start s)) (λ e. at.Token start e)
+
+-- where the bytes of a local part are followed by "@", an address; else what the first byte says
+unfoldable pub valueFrom : List ℕ → ℕ → ℕ → Found
+valueFrom s start sign =
+    elim (eqb (getD (drop sign s) 0 0) (code "@")) [
+      | true ↦ addressAt s start sign
+      | false ↦ (elim (eqb (getD (drop start s) 0 0) (code "\"")) [ true ↦ quotedAt s start | false ↦ tokenAt s start ])
+    ]
+
+abbrev pub valueAt : List ℕ → ℕ → Found
+valueAt s start = valueFrom s start (start + run inLocalPart (drop start s))
+
+-- ==== kind and text
+
+-- the bytes from a place up to another
+abbrev pub span : List ℕ → ℕ → ℕ → List ℕ
+span s a e = take (e - a) (drop a s)
+
+-- the text of a local part, quoted or not
+abbrev pub localText : List ℕ → ℕ → ℕ → Bool → List ℕ
+localText s a e true = quotedText (drop a s)
+localText s a e false = span s a e
+
+-- 01, The report: a mailbox's text is the local part's text, "@", domain; an at-domain's is "@", domain
+abbrev pub valueOf : List ℕ → place.Value → Value
+valueOf s (at.Token a e) = record { kind = results.Token; text = span s a e }
+valueOf s (at.Quoted a e) = record { kind = results.Quoted; text = quotedText (drop a s) }
+valueOf s (at.Mailbox a m e q) = record { kind = results.Mailbox; text = localText s a m q ++ (code "@" ∷ span s (m + 1) e) }
+valueOf s (at.AtDomain a e) = record { kind = results.AtDomain; text = code "@" ∷ span s (a + 1) e }
+
+-- a property value that was found, and the place after it
+abbrev pub valueGot : List ℕ → Found → Got Value
+valueGot s (Read v e) = got (valueOf s v) e
+valueGot s Refused = nothing
+
+-- ==== what private functions say of their answers: no public contract cites these
+
+-- how the code keeps the bytes of local parts: a binary digit for each, the lowest first, 64 bytes to a word
+abbrev pub localWord : ℕ → ℕ
+localWord b = cond (ltb b 64) (bitsOf inLocalPart 0 64) (cond (ltb b 128) (bitsOf inLocalPart 64 64) 0)
+
+-- a byte may follow another one in labels parted by dots
+unfoldable pub goesOn : ℕ → ℕ → Bool
+goesOn b x = alphanumeric x || eqb x (code ".") && alphanumeric b || eqb x (code "-") && not (eqb b (code "."))
