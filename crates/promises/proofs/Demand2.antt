@@ -1,0 +1,146 @@
+-- Demand 2: the report of a field, the stripped block and the judgement of a chain are those of RFC 8601, RFC 8617 and document 01. Each theorem
+-- stands under the sentence that it proves, with an instance where it has premises. Assumes nothing.
+use Prim.Native.Nat.{ℕ, _+_, _*_, _≤_, _<_}
+use native.Mathlib.Omega.{arith}
+use mathlib.Core.Path.{_≡_, refl, sym, ap, _∙_}
+use mathlib.Core.Bool.{true, false}
+use mathlib.Core.List.{List, [], _∷_, _++_, List·Memᴰ}
+use lib.Dec.{lit≤}
+use lib.ListN.{length, drop}
+use Rattle.reading.specs.Texts.{bytes}
+use Rattle.lexis_rules.specs.Limits.{byteLimit}
+use Rattle.block_rules.specs.Fields.{Field, fields, bytesOf}
+use Rattle.authserv_rules.specs.OwnList.{ownList}
+use Rattle.body.specs.Body.{results, reading}
+use Rattle.body.specs.Report.{idLine, lines, ignoredOf}
+use Rattle.resinfo_rules.specs.Results.{Result}
+use Rattle.body.proofs.Opened as body
+use Rattle.body.proofs.Ways as reporting
+use Rattle.body.proofs.Rooms as rooms
+use Rattle.strip_rules.specs.Strip.{strip}
+use Rattle.strip_rules.specs.ByFields.{Kept}
+use Rattle.strip_rules.proofs.Examples as stripped
+use Rattle.strip_rules.proofs.Headlines as stripping
+use Rattle.strip_rules.proofs.ByFields as kept
+use Rattle.strip_rules.proofs.Ways as ways
+use Rattle.arc_rules.specs.Chain.{outcome, built, validFor}
+use Rattle.arc_rules.specs.Accepted.{kindOf, isArc, Accepted}
+use Rattle.arc_rules.proofs.Opened as arc
+use Rattle.arc_rules.proofs.Ways as judging
+use Rattle.arc_rules.proofs.Headlines as judged
+use Rattle.promises.specs.Exactly.{Exactly}
+use Rattle.promises.specs.Calls.{strips, reports, judges}
+
+-- ==== The report of a field is the one RFC 8601 and document 01 give
+
+-- what a body within the limit says is told whole, in front of the lent buffer, where there is room for it
+pub report-told : (body old : List ℕ) → length body ≤ byteLimit → length (reporting.textOf (reading body)) ≤ length old
+    → reports body old
+    ≡ record {
+      answer =
+          record {
+            number = reporting.numberOf (reading body);
+            place = 0;
+            written = length (reporting.textOf (reading body));
+            ignored = reporting.countOf (reading body);
+          };
+      left = reporting.textOf (reading body) ++ drop (length (reporting.textOf (reading body))) old;
+    }
+report-told body old l r = rw (reporting.when-told body (length old) l r)
+
+-- so the results of a well-formed field are its lines but for those that are ignored, and how many these are
+pub report-results : (body i : List ℕ) (rs : List Result) (old : List ℕ) → length body ≤ byteLimit → reading body ≡ results i rs
+    → length (idLine i ++ lines rs) ≤ length old
+    → reports body old
+    ≡ record {
+      answer = record { number = 0; place = 0; written = length (idLine i ++ lines rs); ignored = ignoredOf rs };
+      left = (idLine i ++ lines rs) ++ drop (length (idLine i ++ lines rs)) old;
+    }
+report-results body i rs old l e r = rw (reporting.when-told body (length old) l (rw e r), e)
+
+-- document 01's whole example: 56 bytes, which fit 56 and not 55
+report-example : reports (bytes " example.com; spf=pass smtp.mailfrom=example.net") (bytes "........................................................!")
+    ≡ record {
+      answer = record { number = 0; place = 0; written = 56; ignored = 0 };
+      left = bytes "id\texample.com\nm\tspf\tpass\np\tsmtp\tmailfrom\tt\texample.net\n!";
+    }
+unfolding body.opened
+report-example = refl
+
+-- three times the bytes of the body and four more are always room enough
+pub report-room : (body old : List ℕ) → 3 * length body + 4 ≤ length old → reports body old .answer .number ≡ 6 → ⊥
+report-room body old h = rooms.room-enough body (length old) h
+
+room-example : reports (bytes "a") (bytes ".......") .answer .number ≡ 6 → ⊥
+room-example = report-room (bytes "a") (bytes ".......") (lit≤ tt)
+
+-- ==== Stripping removes exactly the Authentication-Results fields whose identifier is on our own list or can't be read, and keeps every
+-- other byte in order
+
+module _ (block list old : List ℕ) (z : strips block list old .answer .number ≡ 0) where
+  -- the block is its fields, and so is what is written; of the block's fields those that are removed are left out (`Kept`)
+  pub strip-by-fields : (bytesOf (fields block .items) ≡ block)
+      × (Kept (ownList list .items) (fields block .items) (fields (strip block list (length old) .written) .items)
+      × (strips block list old .left ≡ bytesOf (fields (strip block list (length old) .written) .items) ++ drop (strips block list old .answer .kept) old))
+  strip-by-fields = kept.strip-kept block list old z
+
+  -- kept plus removed bytes make the block length
+  pub strip-sum : strips block list old .answer .kept + strips block list old .answer .removed ≡ length block
+  strip-sum = stripping.strip-sum block list (length old) z
+
+  -- 02, ticket [14]: stripping the stripped block with the same list gives the same bytes and removes nothing
+  pub strip-twice : strip (strip block list (length old) .written) list (length old)
+      ≡ record {
+        number = 0;
+        place = 0;
+        kept = strip block list (length old) .kept;
+        removed = 0;
+        fields = 0;
+        written = strip block list (length old) .written;
+      }
+  strip-twice = stripping.strip-twice block list (length old) z
+
+-- document 01's sample: the first field is removed, the second is kept
+strip-example :
+    Kept (bytes "example.com" ∷ [])
+    (fields (bytes "Authentication-Results : Example.COM; none\r\nFrom: a@b.example\r\n") .items)
+    (fields (bytes "From: a@b.example\r\n") .items)
+unfolding stripped.opened
+strip-example =
+    strip-by-fields (bytes "Authentication-Results : Example.COM; none\r\nFrom: a@b.example\r\n") (bytes "example.com\n") (bytes "....................") refl .1 .0
+
+-- a repeated entry changes nothing
+pub strip-repeated : (block list list′ : List ℕ) (room : ℕ) (e : List ℕ) (xs ys zs : List (List ℕ))
+    → ownList list ≡ record { items = xs ++ (e ∷ (ys ++ zs)); number = 0; place = 0 }
+    → ownList list′ ≡ record { items = xs ++ (e ∷ (ys ++ (e ∷ zs))); number = 0; place = 0 } → strip block list′ room ≡ strip block list room
+strip-repeated = stripping.strip-repeated
+
+repeated-example : (block : List ℕ) (room : ℕ) → strip block (bytes "a\nb\na\n") room ≡ strip block (bytes "a\nb\n") room
+unfolding stripped.opened
+repeated-example block room = strip-repeated block (bytes "a\nb\n") (bytes "a\nb\na\n") room (bytes "a") [] (bytes "b" ∷ []) [] refl refl
+
+-- ==== An ARC structure is accepted exactly when every ARC field reads, and instances 1 to N, N from 1 to 50, each have one field of each
+-- kind and the chain values RFC 8617 prescribes
+
+-- for every block within the limit whose walk comes to its end, and N verdicts from 0 to 3
+pub judge-built : (block verdicts : List ℕ) (n : ℕ) → judging.Known block → validFor n verdicts ≡ true
+    → Exactly ((judges block verdicts .outcome ≡ 2) × (judges block verdicts .instances ≡ n)) (Accepted (fields block .items) n)
+judge-built = judged.judge-built
+
+-- one set, in an order of its own, with a field of another name between
+built-example : Accepted (fields judged.one .items) 1
+unfolding arc.opened
+built-example = judge-built judged.one (3 ∷ []) 1 (lit≤ tt, refl) refl .0 (refl, refl)
+
+-- and whatever the verdicts, the outcome of its fields
+pub built-exactly : (fs : List Field) (n : ℕ) → Exactly (outcome fs ≡ built n) (Accepted fs n)
+built-exactly = judged.built-exactly
+
+-- none if there are no such fields, whatever the verdicts
+pub judge-none : (block verdicts : List ℕ) → judging.Known block → ((f : Field) → List·Memᴰ f (fields block .items) → isArc (kindOf f) ≡ false)
+    → judges block verdicts ≡ record { number = 0; place = 0; outcome = 0; reason = 0; field = 0; instances = 0; status = 0; oldest = 0 }
+judge-none block verdicts k h = rw (judged.none-whatever block (k .0) (k .1) h verdicts)
+
+-- verdicts are read only where the chain is built
+pub judge-unread : (block vs ws : List ℕ) → (judges block vs .outcome ≡ 2 → ⊥) → (judges block vs .number ≡ 10 → ⊥) → judges block vs ≡ judges block ws
+judge-unread block vs ws a b = rw (judged.unread-unless-built block vs ws a b)

@@ -1,0 +1,40 @@
+-- 02, ticket [1], "Write our own field": what is promised of the written field. When it is refused is in Demand1. Assumes nothing.
+use Prim.Native.Nat.{ℕ, _≤_}
+use mathlib.Core.Path.{_≡_, refl}
+use mathlib.Core.List.{List, _++_}
+use lib.Dec.{lit≤}
+use lib.ListN.{length}
+use Rattle.reading.specs.Texts.{bytes}
+use Rattle.body.specs.Report.{report}
+use Rattle.compose.specs.Compose.{compose}
+use Rattle.compose.specs.Promise.{Reports, Reported, Placed, bodyFor}
+use Rattle.compose.proofs.Opened as compose
+use Rattle.compose.proofs.Headlines as written
+
+-- ==== For every list of lines it accepts, reading the written body gives the same lines back with an ignored count of zero
+
+pub round-trip : (lines : List ℕ) (room : ℕ) → compose lines room .number ≡ 0 → (r : ℕ) → length lines ≤ r
+    → report (compose lines room .written) r ≡ record { number = 0; place = 0; ignored = 0; written = lines }
+round-trip = written.round-trip
+
+round-trip-example :
+    report (bytes " mx.example; spf=pass reason=\"a \\\"good\\\" host\" smtp.mailfrom=joe@example.net") 100
+    ≡ record {
+      number = 0;
+      place = 0;
+      ignored = 0;
+      written = bytes "id\tmx.example\nm\tspf\tpass\nr\ta%20\"good\"%20host\np\tsmtp\tmailfrom\tm\tjoe@example.net\n";
+    }
+unfolding compose.opened
+round-trip-example =
+    round-trip (bytes "id\tmx.example\nm\tspf\tpass\nr\ta%20\"good\"%20host\np\tsmtp\tmailfrom\tm\tjoe@example.net\n") 100 refl 100 (lit≤ tt)
+
+-- the same of every body that would be written, however long it is and however little room there is
+pub body-reports : (lines : List ℕ) → Reported lines → Reports (bodyFor lines) lines
+body-reports = written.body-reports
+
+-- ==== Its place is the first line, from 1, up to which the lines can begin no such report .. or, where they only stop too early, one more
+-- than their count: there is only one such place
+
+pub placed-once : (lines : List ℕ) (p q : ℕ) → Placed lines p → Placed lines q → p ≡ q
+placed-once = written.placed-once

@@ -1,0 +1,46 @@
+-- The calls of the library as their contracts give them: what a call answers, and what then stands in the buffer that was lent to it, which holds
+-- `old` before. Assumes nothing: these are definitions.
+use Prim.Native.Nat.{ℕ}
+use mathlib.Core.List.{List}
+use lib.ListN.{length}
+use Rattle.strip_rules.specs.declared.Stripped.{Stripped}
+use Rattle.strip_rules.specs.Strip.{strip}
+use Rattle.strip_rules.specs.Answers as stripping
+use Rattle.body.specs.declared.Reported.{Reported}
+use Rattle.body.specs.Report.{report}
+use Rattle.body.specs.Answers as reporting
+use Rattle.compose.specs.declared.Written.{Written}
+use Rattle.compose.specs.Compose.{compose}
+use Rattle.compose.specs.Answers as writing
+use Rattle.arc_rules.specs.declared.Judged.{Judged}
+use Rattle.arc_rules.specs.Chain.{judge}
+use Rattle.arc_rules.specs.Answers as judging
+
+-- `strip::strip(block, list, out)`
+pub record Stripping : Type 0 where
+  pub answer : Stripped
+  pub left : List ℕ
+
+abbrev pub strips : List ℕ → List ℕ → List ℕ → Stripping
+strips block list old =
+    record { answer = stripping.answerOf (strip block list (length old)); left = stripping.leaves (strip block list (length old)) old }
+
+-- `report::report(body, out)`
+pub record Reporting : Type 0 where
+  pub answer : Reported
+  pub left : List ℕ
+
+abbrev pub reports : List ℕ → List ℕ → Reporting
+reports body old = record { answer = reporting.answerOf (report body (length old)); left = reporting.leaves (report body (length old)) old }
+
+-- `writing::write(lines, out)`
+pub record Writing : Type 0 where
+  pub answer : Written
+  pub left : List ℕ
+
+abbrev pub writes : List ℕ → List ℕ → Writing
+writes lines old = record { answer = writing.answerOf (compose lines (length old)); left = writing.leaves (compose lines (length old)) old }
+
+-- `arc::judge(block, verdicts)`, which is lent no buffer
+abbrev pub judges : List ℕ → List ℕ → Judged
+judges block verdicts = judging.answerOf (judge block verdicts)
