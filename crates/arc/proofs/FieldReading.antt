@@ -14,13 +14,13 @@ use Rattle.lexis_rules.specs.Limits.{byteLimit}
 use Rattle.arc.specs.declared.Field.{Field}
 use Rattle.arc_rules.specs.declared.Kind.{Kind}
 use Rattle.arc_rules.specs.declared.Kind.the-variants.{Results, Signature, Seal, Other}
-use Rattle.arc.specs.declared.instance.Start.{Start}
-use Rattle.arc.specs.declared.instance.Start.the-variants as start
+use Rattle.instances.specs.declared.Start.{Start}
+use Rattle.instances.specs.declared.Start.the-variants as start
 use Rattle.taglist.specs.declared.Listed.{Listed}
 use Rattle.taglist.specs.declared.Listed.the-variants as listed
 use Rattle.arc_rules.specs.Tags.{Tag, tags, valueNamed}
 use Rattle.arc_rules.specs.Sets.{instance, chainValue, Said, isSignature, isSeal, says}
-use Rattle.arc.specs.Answers.{startGot}
+use Rattle.instances.specs.Answers.{startGot}
 use Rattle.taglist.specs.Lists.{listTest, listSaid, listedAt, listedSaid}
 use Rattle.taglist.proofs.TagLists.{list-within}
 use Rattle.arc.specs.Internal.{fieldOf, fieldSaid, saidOf}

@@ -1,4 +1,3 @@
-pub mod Instances
 pub mod FieldReading
 pub mod Noting
 pub mod Ranking

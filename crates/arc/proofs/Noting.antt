@@ -24,12 +24,12 @@ use Rattle.block.proofs.Steps.{Rest, fieldFrom, Cut, step-field, step-end, step
 use Rattle.arc.specs.declared.Field.{Field}
 use Rattle.arc.specs.declared.Field.the-variants as field
 use Rattle.arc.specs.declared.Counts.{Counts}
-use Rattle.arc.specs.declared.instance.Instance.{Instance}
+use Rattle.instances.specs.declared.Instance.{Instance}
 use Rattle.arc_rules.specs.declared.Kind.{Kind}
 use Rattle.arc_rules.specs.declared.Kind.the-variants.{Results, Signature, Seal, Other}
 use Rattle.arc_rules.specs.Sets.{kindNamed, lastInstance, instance, Said, says}
 use Rattle.arc_rules.specs.Chain.{Sets, noSets, column, first, sealed, placed, recorded, noted, gathered}
-use Rattle.arc.specs.Answers.{noInstance}
+use Rattle.instances.specs.Answers.{noInstance}
 use Rattle.arc_rules.proofs.Counting.{InRange, says-range}
 use Rattle.arc.specs.Internal.{fieldSaid, saidOf, isOther, setsOf, noCounts, GatheredFrom, Places}
 

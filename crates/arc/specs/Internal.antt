@@ -1,17 +1,11 @@
 -- What private functions say: no public contract cites these. Assumes nothing: these are definitions.
-use Prim.Native.Char.{code}
-use Prim.Native.Nat.{ℕ, _+_, _<_}
+use Prim.Native.Nat.{ℕ, _<_}
 use mathlib.Core.Path.{_≡_}
-use mathlib.Core.Bool.{Bool, true, false, cond}
+use mathlib.Core.Bool.{Bool, true, false}
 use mathlib.Core.List.{List, []}
 use mathlib.Core.Option.{Option, none, some}
-use lib.Dec.{eqb, leb}
-use lib.ListN.{length, getD, drop}
-use Rattle.reading.specs.Texts.{starts}
-use Rattle.reading.specs.Readers.{Reader}
-use Rattle.reading.specs.Parsers.{nothing, got, Parser, _>>=_, _>>_, give, when, byte, text}
-use Rattle.lexis_rules.specs.Pieces.{space, digits, decimal}
-use Rattle.lexis_rules.specs.Words.{skip}
+use lib.ListN.{length, getD}
+use Rattle.reading.specs.Parsers.{nothing, got}
 use Rattle.block_rules.specs.Fields.{fields}
 use Rattle.arc.specs.declared.Field.{Field}
 use Rattle.arc.specs.declared.Field.the-variants as field
@@ -21,27 +15,8 @@ use Rattle.arc_rules.specs.declared.Kind.{Kind}
 use Rattle.arc_rules.specs.declared.Kind.the-variants.{Results, Signature, Seal, Other}
 use Rattle.taglist.specs.declared.Listed.{Listed}
 use Rattle.taglist.specs.declared.Listed.the-variants as listed
-use Rattle.arc_rules.specs.Sets.{lastInstance, isInstance, Said, says}
+use Rattle.arc_rules.specs.Sets.{lastInstance, Said, says}
 use Rattle.arc_rules.specs.Chain.{Sets, gathered, Outcome, completeOutcome}
-
--- ==== the instance
-
--- a byte with the space before it
-unfoldable pub marked : ℕ → Reader
-marked c xs = elim (starts (λ b. eqb b c) (drop (space xs) xs)) [ true ↦ space xs + 1 | false ↦ 0 ]
-
--- one or two digits; 0 for more
-unfoldable pub worth : List ℕ → ℕ
-worth d = cond (leb (length d) 2) (decimal 0 d) 0
-
--- the instance from its digits on
-unfoldable pub numbered : Parser ℕ
-numbered = do
-  d ← text digits
-  when (isInstance d)
-  skip
-  byte (code ";")
-  give (decimal 0 d)
 
 -- ==== fields
 

@@ -28,8 +28,8 @@ use arc_rules::Judged;
 use arc_rules::Kind;
 use block::Next;
 use block::Walk;
-use instance::Instance;
-use instance::Start;
+use instances::Instance;
+use instances::Start;
 use taglist::Listed;
 ghost use mathlib.Core.Path.{_≡_};
 ghost use mathlib.Core.Bool.{cond};
@@ -42,7 +42,6 @@ ghost use Rattle.arc_rules.specs.Sets.{lastInstance};
 ghost use Rattle.arc_rules.specs.Answers.{answerOf};
 ghost use Rattle.arc.specs.Internal.{fieldOf, fieldSaid, saidOf, isOther, setsOf, GatheredFrom, Places, rankedBy};
 
-pub mod instance;
 pub mod kind;
 
 // What an ARC field says: its instance, and a seal's chain value (0 for the other kinds).
@@ -65,7 +64,7 @@ fn read_field(kind: Kind, body: &[u8]) -> Field
     requires { ⌜ length (now body) ≤ byteLimit ⌝ }
     ensures { λ r. ⌜ fieldSaid r ≡ saidOf kind (now (body .entry)) ⌝ }
 {
-    match instance::instance_of(body) {
+    match instances::instance_of(body) {
         Start::Read { instance, end } => match kind {
             Kind::Results => Field::Read { instance, cv: 0 },
             Kind::Signature => field_of(instance, taglist::list_at(false, body, end)),

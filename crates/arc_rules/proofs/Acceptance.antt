@@ -1,6 +1,6 @@
 -- A chain is built exactly where its fields are accepted: the tests of an outcome hold exactly at sets with no empty place and the
 -- prescribed chain values up to the highest instance, by cases in their order and by induction on rows and values; what the sets say of
--- the fields is the invariant of gathering. Assumes nothing.
+-- the fields is the invariant of gathering. The outcome is none only where there is no ARC field. Assumes nothing.
 use Prim.Native.Nat.{ℕ, zero, suc, _-_, _≤_, _<_, suc-le-suc}
 use native.Mathlib.Nat.{le-of-suc-le-suc, not-suc-le-zero}
 use native.Mathlib.Omega.{arith}
@@ -18,8 +18,8 @@ use Rattle.arc_rules.specs.declared.Kind.{Kind}
 use Rattle.arc_rules.specs.declared.Kind.the-variants.{Results, Seal}
 use Rattle.arc_rules.specs.Sets.{lastInstance, Said}
 use Rattle.arc_rules.specs.Chain.{Sets, placeOf, column, none, failed, built, rowEmpty, anyEmpty, allPass, prescribed, completeOutcome, outcomeOf, outcome, gathered, noSets}
-use Rattle.arc_rules.specs.Accepted.{kindOf, isArc, saidBy, standsAt, fieldsAt, cvPrescribed, Accepted}
-use Rattle.arc_rules.proofs.Counting.{InRange, column-arc, kind-at, says-range, stands-not, stands-own, stands-only, count-some, count-field}
+use Rattle.arc_rules.specs.Accepted.{kindOf, isArc, saidBy, reads, standsAt, fieldsAt, cvPrescribed, Accepted}
+use Rattle.arc_rules.proofs.Counting.{InRange, column-arc, kind-at, says-range, reads-not, stands-not, stands-own, stands-only, count-some, count-field}
 use Rattle.arc_rules.proofs.Storing.{Shaped}
 use Rattle.arc_rules.proofs.Gathering.{Told, sets-told}
 
@@ -270,3 +270,61 @@ accepted-exactly fs n =
     let t = sets-told fs in
     let z = gathered 0 fs noSets in
     ((λ e. built-accepted fs z t n (built-inv z n e)), (λ a. built-is z n (accepted-built fs z t n a)))
+
+-- ==== none
+
+-- what is known of sets whose outcome is none
+none-inv : (z : Sets) → outcomeOf z ≡ none → (z .unreadable ≡ 0) × (z .highest ≡ 0)
+unfolding outcomeOf completeOutcome
+none-inv z e = unreadable (z .unreadable) refl
+  where
+    failed-not : (a b : ℕ) → failed a b ≡ none → ⊥
+    failed-not a b q = let o : _≡_ {A = ℕ} 0 1 = cc in omega arith
+
+    complete-not : (h : ℕ) → completeOutcome h z ≡ none → ⊥
+    complete-not h q = places (anyEmpty (take h (z .places))) refl
+      where
+        values : anyEmpty (take h (z .places)) ≡ false → eqb (getD (z .cvs) (h - 1) 0) 3 ≡ false → (t : Bool) → prescribed (take h (z .cvs)) ≡ t → ⊥
+        values c d true f = built-none h (sym (rw (completeOutcome, c, d, f) at q))
+        values c d false f = failed-not 5 0 (rw (completeOutcome, c, d, f) at q)
+
+        last : anyEmpty (take h (z .places)) ≡ false → (t : Bool) → eqb (getD (z .cvs) (h - 1) 0) 3 ≡ t → ⊥
+        last c true d = failed-not 4 0 (rw (completeOutcome, c, d) at q)
+        last c false d = values c d (prescribed (take h (z .cvs))) refl
+
+        places : (t : Bool) → anyEmpty (take h (z .places)) ≡ t → ⊥
+        places true c = failed-not 3 0 (rw (completeOutcome, c) at q)
+        places false c = last c (eqb (getD (z .cvs) (h - 1) 0) 3) refl
+
+    highest : z .unreadable ≡ 0 → z .repeated ≡ 0 → (h : ℕ) → z .highest ≡ h → (z .unreadable ≡ 0) × (z .highest ≡ 0)
+    highest a b zero c = (a, c)
+    highest a b (suc h) c = absurd (complete-not (suc h) (rw (outcomeOf, a, b, c) at e))
+
+    repeated : z .unreadable ≡ 0 → (r : ℕ) → z .repeated ≡ r → (z .unreadable ≡ 0) × (z .highest ≡ 0)
+    repeated a zero b = highest a b (z .highest) refl
+    repeated a (suc r) b = absurd (failed-not 2 (suc r) (rw (outcomeOf, a, b) at e))
+
+    unreadable : (u : ℕ) → z .unreadable ≡ u → (z .unreadable ≡ 0) × (z .highest ≡ 0)
+    unreadable zero a = repeated a (z .repeated) refl
+    unreadable (suc u) a = absurd (failed-not 1 (suc u) (rw (outcomeOf, a) at e))
+
+-- then no field is an ARC field: one that reads would stand past the highest instance
+pub none-without : (fs : List Field) → outcome fs ≡ none → (f : Field) → List·Memᴰ f fs → isArc (kindOf f) ≡ false
+none-without fs e f mem = go (isArc (kindOf f)) refl
+  where
+    w : Told fs (gathered 0 fs noSets)
+    w = sets-told fs
+
+    known : (gathered 0 fs noSets .unreadable ≡ 0) × (gathered 0 fs noSets .highest ≡ 0)
+    known = none-inv (gathered 0 fs noSets) e
+
+    said : isArc (kindOf f) ≡ true → (g : Got Said) → saidBy f ≡ g → ⊥
+    said a nothing q = both (reads f) (reads-not f q) (w .read (known .0) f mem a)
+    said a (got x m) q =
+        let r = says-range (kindOf f) (bodyOf f) x m q in
+        let c = count-some (kindOf f) (x .instance) fs f mem (stands-own f x m q) in
+        omega (arith, c, w .past (kindOf f) a (x .instance) (omega (arith, r, known .1)))
+
+    go : (t : Bool) → isArc (kindOf f) ≡ t → isArc (kindOf f) ≡ false
+    go true a = absurd (said a (saidBy f) refl)
+    go false a = a

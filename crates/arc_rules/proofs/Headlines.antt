@@ -12,8 +12,9 @@ use Rattle.block_rules.specs.Fields.{Field, fields}
 use Rattle.arc_rules.specs.Chain.{built, outcome, validFor, Answer, blank, judged, judge}
 use Rattle.arc_rules.specs.Accepted.{kindOf, isArc, Accepted}
 use Rattle.arc_rules.proofs.Opened.{opened}
-use Rattle.arc_rules.proofs.Acceptance.{accepted-exactly}
-use Rattle.arc_rules.proofs.Ways.{Known, built-when, when-built}
+use Rattle.arc_rules.proofs.Acceptance.{accepted-exactly, none-without}
+use Rattle.arc_rules.specs.Told.{Known, BadVerdicts}
+use Rattle.arc_rules.proofs.Ways.{built-when, when-built, none-when}
 use Rattle.arc_rules.proofs.Answering.{judge-is, outcome-none, judge-unread, ten-bad, bad-ten}
 
 -- An ARC structure is accepted exactly when every ARC field reads, and instances 1 to N, N from 1 to 50, each have one field of each kind
@@ -43,17 +44,16 @@ unfolding judged
 none-whatever block small sound others verdicts =
     judge-is block verdicts (le-ltb byteLimit (length block) small) sound ∙ rw (outcome-none (fields block .items) others)
 
+-- None exactly there: the walk comes to its end, and no field is an ARC field.
+pub none-exactly : (block vs : List ℕ) → Known block
+    → ((judge block vs .number ≡ 0) × (judge block vs .outcome ≡ 0) → (f : Field) → List·Memᴰ f (fields block .items) → isArc (kindOf f) ≡ false)
+    × (((f : Field) → List·Memᴰ f (fields block .items) → isArc (kindOf f) ≡ false) → judge block vs ≡ blank 0 0)
+none-exactly block vs k =
+    ((λ e. none-without (fields block .items) (none-when block vs k (e .0) (e .1))), (λ h. none-whatever block (k .0) (k .1) h vs))
+
 -- Verdicts are read only where the chain is built.
 pub unread-unless-built : (block vs ws : List ℕ) → (judge block vs .outcome ≡ 2 → ⊥) → (judge block vs .number ≡ 10 → ⊥) → judge block vs ≡ judge block ws
 unread-unless-built = judge-unread
-
--- the block is within the limit, its walk has no refusal, its chain is built, and the verdicts aren't one byte from 0 to 3 for each instance
-pub record BadVerdicts (block verdicts : List ℕ) : Type 0 where
-  pub small : length block ≤ byteLimit
-  pub sound : fields block .number ≡ 0
-  pub instances : ℕ
-  pub chain : outcome (fields block .items) ≡ built instances
-  pub bad : validFor instances verdicts ≡ false
 
 -- The answer is 10 exactly then.
 pub ten-exactly : (block vs : List ℕ) → (judge block vs .number ≡ 10 → BadVerdicts block vs) × (BadVerdicts block vs → judge block vs .number ≡ 10)

@@ -5,12 +5,14 @@ use native.Mathlib.Omega.{arith}
 use mathlib.Core.Path.{_≡_, refl, sym, ap, _∙_}
 use mathlib.Core.Bool.{Bool, true, false, cond}
 use mathlib.Core.List.{List}
+use mathlib.Core.Logic.{_⊎_, ⊎-elim}
 use borrow.Author.Tests.{ltb-true, ltb-false}
 use lib.Dec.{ltb}
 use lib.ListN.{length}
 use Rattle.lexis_rules.specs.Limits.{byteLimit}
 use Rattle.block_rules.specs.Fields.{fields}
 use Rattle.block_rules.proofs.Fields.{fields-numbers}
+use Rattle.arc_rules.specs.Told.{Known}
 use Rattle.arc_rules.specs.Chain.{Outcome, none, failed, built, outcome, validFor, passes, oldestPass, Answer, judged, judge}
 
 -- a number and its place, and 0 for everything else
@@ -91,10 +93,6 @@ built-one : {A : Type 0} (n m : ℕ) (o : Outcome) (vs : List ℕ) → o ≡ bui
 built-one n m o vs p q t f =
     let z : n ≡ m = ap (λ (x : Outcome). elim x [ none ↦ 0 | failed r g ↦ 0 | built k ↦ k ]) (sym p ∙ q) in
     absurd (let y : _≡_ {A = ℕ} 0 1 = cc in omega arith)
-
--- the chain is known: the block is within the limit and its walk comes to the end
-abbrev pub Known : List ℕ → Type 0
-Known block = (length block ≤ byteLimit) × (fields block .number ≡ 0)
 
 module _ (block vs : List ℕ) where
   pub one-when : judge block vs .number ≡ 1 → byteLimit < length block
@@ -198,4 +196,44 @@ module _ (block vs : List ℕ) where
         | fails l f r g p q ↦ absurd (let y : _≡_ {A = ℕ} 0 1 = ap (λ (x : Outcome). elim x [ none ↦ 0 | failed r g ↦ 0 | built k ↦ 1 ]) (sym p ∙ o) in omega arith)
         | bad l f m p w q ↦ built-one n m (outcome (fields block .items)) vs o p v w
         | whole l f m p w q ↦ (let z : m ≡ n = ap (λ (x : Outcome). elim x [ none ↦ 0 | failed r g ↦ 0 | built k ↦ k ]) (sym p ∙ o) in q ∙ ap (λ (x : ℕ). building x vs) z)
+      ]
+
+  -- failed: the first reason that applies and the field that it names
+  pub when-fails : (r f : ℕ) → Known block → outcome (fields block .items) ≡ failed r f → judge block vs ≡ failing r f
+  when-fails r f k o =
+      elim (way block vs) [
+        | long l q ↦ absurd (omega (arith, k .0))
+        | cut l m g i j q ↦ absurd (omega (arith, k .1))
+        | without l g p q ↦ absurd (let y : _≡_ {A = ℕ} 0 1 = ap (λ (x : Outcome). elim x [ none ↦ 0 | failed a b ↦ 1 | built c ↦ 0 ]) (sym p ∙ o) in omega arith)
+        | fails l g a b p q ↦
+            (let e = sym p ∙ o in
+            let x : a ≡ r = ap (λ (y : Outcome). elim y [ none ↦ 0 | failed c d ↦ c | built c ↦ 0 ]) e in
+            let z : b ≡ f = ap (λ (y : Outcome). elim y [ none ↦ 0 | failed c d ↦ d | built c ↦ 0 ]) e in
+            q ∙ (ap (λ (c : ℕ). failing c b) x ∙ ap (λ (d : ℕ). failing r d) z))
+        | bad l g m p w q ↦ absurd (let y : _≡_ {A = ℕ} 0 1 = ap (λ (x : Outcome). elim x [ none ↦ 0 | failed a b ↦ 1 | built c ↦ 0 ]) (sym p ∙ o) in omega arith)
+        | whole l g m p w q ↦ absurd (let y : _≡_ {A = ℕ} 0 1 = ap (λ (x : Outcome). elim x [ none ↦ 0 | failed a b ↦ 1 | built c ↦ 0 ]) (sym p ∙ o) in omega arith)
+      ]
+
+  -- the place is that of the walk for 2 to 4, and else 0
+  pub place-else : (judge block vs .number ≤ 1) ⊎ (5 ≤ judge block vs .number) → judge block vs .place ≡ 0
+  place-else h =
+      elim (way block vs) [
+        | long l q ↦ ap (λ (x : Answer). x .place) q
+        | cut l n f i j q ↦ absurd (⊎-elim (λ a. omega (arith, a, ap (λ (x : Answer). x .number) q)) (λ a. omega (arith, a, ap (λ (x : Answer). x .number) q)) h)
+        | without l f o q ↦ ap (λ (x : Answer). x .place) q
+        | fails l f r g o q ↦ ap (λ (x : Answer). x .place) q
+        | bad l f n o v q ↦ ap (λ (x : Answer). x .place) q
+        | whole l f n o v q ↦ ap (λ (x : Answer). x .place) q
+      ]
+
+  -- none is told exactly where the outcome is none
+  pub none-when : Known block → judge block vs .number ≡ 0 → judge block vs .outcome ≡ 0 → outcome (fields block .items) ≡ none
+  none-when k e d =
+      elim (way block vs) [
+        | long l q ↦ absurd (omega (arith, k .0))
+        | cut l m g i j q ↦ absurd (omega (arith, k .1))
+        | without l g p q ↦ p
+        | fails l g a b p q ↦ absurd (let z : _≡_ {A = ℕ} 1 0 = sym (ap (λ (x : Answer). x .outcome) q) ∙ d in omega arith)
+        | bad l g m p w q ↦ absurd (let z : _≡_ {A = ℕ} 10 0 = sym (ap (λ (x : Answer). x .number) q) ∙ e in omega arith)
+        | whole l g m p w q ↦ absurd (let z : _≡_ {A = ℕ} 2 0 = sym (ap (λ (x : Answer). x .outcome) q) ∙ d in omega arith)
       ]

@@ -3,3 +3,4 @@ pub mod Sets
 pub mod Chain
 pub mod Accepted
 pub mod Answers
+pub mod Told

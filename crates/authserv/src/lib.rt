@@ -1,5 +1,4 @@
-// The identifier at the front of a field body (RFC 8601: authserv-id), the header version behind it, and whether an identifier is on our
-// own list.
+// The identifier at the front of a field body (RFC 8601: authserv-id), and the header version behind it.
 //
 // Where the identifier can't be read nothing further is tried: that is number 7 where a report is asked for, and the field goes where a
 // block is stripped.

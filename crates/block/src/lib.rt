@@ -1,12 +1,10 @@
-// The fields of a header block, one at a time, and our own list of identifiers.
+// The fields of a header block, one at a time.
 //
 // `next_field` answers what stands at a place of a walk: a field, by four places; the end; or a refusal, with its number and place:
 //   2  a CR without LF, an LF without CR, or a last line without CRLF: that byte; for an unfinished line the block length
 //   3  an empty line, a first line starting with space or tab, or a field that lacks name or colon: the start of the line
 //   4  a 513th field: its start
 // A block of more than 65,536 bytes is the caller's to refuse (`lexis::too_long`).
-//
-// `check_list` answers whether a list is good, or where its first bad entry starts (5).
 use answer_numbers::Number;
 use lexis_rules::Class;
 ghost use mathlib.Core.Path.{_≡_};

@@ -15,7 +15,7 @@ use Rattle.body.specs.Newer.{Names, WithinLimit, WellFormed, resultsOf, 
 use Rattle.body.specs.Beside.{insertionPlaces, insertAt}
 use Rattle.body.proofs.Opened.{opened}
 use Rattle.body.proofs.Readings.{report-is, newer-same}
-use Rattle.body.proofs.Ignored.{newer-ignored, putIn-length, ignored-beside, places-four}
+use Rattle.body.proofs.Ignored.{newer-ignored, insertAt-length, ignored-inserted, places-four}
 
 -- ==== header versions
 
@@ -32,7 +32,7 @@ newer-header b c v n m B C ne s l k room =
 -- place nor bytes written, and where the report fits one more is counted as ignored, for every room
 pub newer-result : (b w : List ℕ) (r : Result) → WellFormed b → IsResult w r → (r .methodspec .version ≡ one → ⊥)
     → (k : ℕ) → List·Memᴰ k (insertionPlaces b) → WithinLimit (insertAt k w b) → (room : ℕ) → OneMore (report (insertAt k w b) room) (report b room)
-newer-result b w r good W ne k K l room = ignored-beside b w r good W (newer-ignored r ne) k K l room
+newer-result b w r good W ne k K l room = ignored-inserted b w r good W (newer-ignored r ne) k K l room
 
 -- the places beside its results are four for each
 pub four-places : (b : List ℕ) → WellFormed b → length (insertionPlaces b) ≡ 4 * length (resultsOf (reading b))
@@ -62,7 +62,7 @@ unfolding opened
 old-places = refl
 
 sized-instance : (k : ℕ) → WithinLimit (insertAt k new old)
-sized-instance k = rw (putIn-length k new old) (lit≤ tt)
+sized-instance k = rw (insertAt-length k new old) (lit≤ tt)
 
 result-instance : (k : ℕ) → List·Memᴰ k (2 ∷ 6 ∷ 36 ∷ 37 ∷ 36 ∷ 37 ∷ 48 ∷ 53 ∷ []) → (room : ℕ)
     → OneMore (report (insertAt k new old) room) (report old room)

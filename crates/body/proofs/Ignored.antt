@@ -22,7 +22,7 @@ use Rattle.body.proofs.Heads.{head-within, head-steady}
 use Rattle.body.proofs.Readings.{report-is, same-not, reading-is, headed-is, payload-is, Sound, well-formed-inv, Payload, neither, word, some, payload-cases}
 use Rattle.body.proofs.Sequence.{Reads, reads-closed, reads-inv, reads-is}
 use Rattle.body.proofs.Cuts.{Put, put}
-use Rattle.body.proofs.Places.{Split, Found, beside-found, word-beside, beside-four}
+use Rattle.body.proofs.Places.{Split, Found, places-found, word-places, places-count}
 
 -- ==== lines and count
 
@@ -53,9 +53,9 @@ fitted-more room out k = go (leb (length out) room) refl
 
 -- ==== a result put in
 
-pub putIn-length : (k : ℕ) (w b : List ℕ) → length (insertAt k w b) ≡ length b + length w
+pub insertAt-length : (k : ℕ) (w b : List ℕ) → length (insertAt k w b) ≡ length b + length w
 unfolding insertAt
-putIn-length k w b = simp length-append (omega (arith, simp length-append at (ap length (take-append-drop k b))))
+insertAt-length k w b = simp length-append (omega (arith, simp length-append at (ap length (take-append-drop k b))))
 
 payload-put : (i xs : List ℕ) (a : Result) (x y : List Result) → Reads xs (x ++ (a ∷ y)) → payload i xs ≡ results i (x ++ (a ∷ y))
 payload-put i xs a [] y R = let g = reads-is R in payload-is i xs a y (g .size) (g .reads)
@@ -112,19 +112,19 @@ module _ (b w : List ℕ) (a : Result) (W : IsResult w a) (B : Sound b) (rs : Li
         rw (new, old) (fitted-more room out (ignoredOf rs))
 
 -- at any place beside a result
-pub ignored-beside : (b w : List ℕ) (a : Result) → WellFormed b → IsResult w a → understood a ≡ false
+pub ignored-inserted : (b w : List ℕ) (a : Result) → WellFormed b → IsResult w a → understood a ≡ false
     → (k : ℕ) → List·Memᴰ k (insertionPlaces b) → WithinLimit (insertAt k w b) → (room : ℕ) → OneMore (report (insertAt k w b) room) (report b room)
-ignored-beside b w a good W U k K L room = go (payload-cases (B .heads .identifier) (drop (B .size) b))
+ignored-inserted b w a good W U k K L room = go (payload-cases (B .heads .identifier) (drop (B .size) b))
   where
     B : Sound b
     B = well-formed-inv b good
 
     go : Payload (B .heads .identifier) (drop (B .size) b) → OneMore (report (insertAt k w b) room) (report b room)
     go (neither p) = absurd (no-true (rw (B .says, p) at good))
-    go (word n e p) = absurd (List·Memᴰ·not-nil (rw (word-beside b (B .heads) (B .size) (B .reads) n e) at K))
+    go (word n e p) = absurd (List·Memᴰ·not-nil (rw (word-places b (B .heads) (B .size) (B .reads) n e) at K))
     go (some rs m e p) =
-        let F : Found b (B .size) k = beside-found b (B .heads) (B .size) (B .reads) k K in
-        let M : WithinLimit b = omega (arith, putIn-length k w b) in
+        let F : Found b (B .size) k = places-found b (B .heads) (B .size) (B .reads) k K in
+        let M : WithinLimit b = omega (arith, insertAt-length k w b) in
         rw (F .is) (report-put b w a W B rs m e (F .away) (F .cuts) (B .says ∙ p) U (rw (F .is) at L) M room)
 
 -- four places for each result; the word none has none
@@ -136,5 +136,5 @@ places-four b good = go (payload-cases (B .heads .identifier) (drop (B .size) b)
 
     go : Payload (B .heads .identifier) (drop (B .size) b) → length (insertionPlaces b) ≡ 4 * length (resultsOf (reading b))
     go (neither p) = absurd (no-true (rw (B .says, p) at good))
-    go (word n e p) = rw (B .says, p, word-beside b (B .heads) (B .size) (B .reads) n e)
-    go (some rs m e p) = rw (B .says, p) (beside-four b (B .heads) (B .size) (B .reads) (reads-inv rs (drop (B .size) b) m e))
+    go (word n e p) = rw (B .says, p, word-places b (B .heads) (B .size) (B .reads) n e)
+    go (some rs m e p) = rw (B .says, p) (places-count b (B .heads) (B .size) (B .reads) (reads-inv rs (drop (B .size) b) m e))

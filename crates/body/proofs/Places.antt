@@ -178,14 +178,14 @@ around-cut b (z ∷ zs) n k h i p = go (λ n k h i p. around-cut b zs n k h i p)
 -- ==== the places beside the results of a body
 
 module _ (b : List ℕ) (h : Head) (n : ℕ) (e : head b ≡ got h n) where
-  beside-is : (zs : List Extent) (k : ℕ) → several extent 0 (drop n b) ≡ got zs k → insertionPlaces b ≡ placesAround b n zs
+  places-is : (zs : List Extent) (k : ℕ) → several extent 0 (drop n b) ≡ got zs k → insertionPlaces b ≡ placesAround b n zs
   unfolding insertionPlaces
-  beside-is zs k f = rw (insertionPlaces, e, f)
+  places-is zs k f = rw (insertionPlaces, e, f)
 
-  pub beside-found : (i : ℕ) → List·Memᴰ i (insertionPlaces b) → Found b n i
-  beside-found i p =
+  pub places-found : (i : ℕ) → List·Memᴰ i (insertionPlaces b) → Found b n i
+  places-found i p =
       let t = several-total extent 0 (drop n b) in
-      around-cut b (t .list) n (t .size) (t .is) i (rw (beside-is (t .list) (t .size) (t .is)) at p)
+      around-cut b (t .list) n (t .size) (t .is) i (rw (places-is (t .list) (t .size) (t .is)) at p)
 
   around-length : (m : ℕ) (zs : List Extent) → length (placesAround b m zs) ≡ 4 * length zs
   unfolding placesAround
@@ -207,12 +207,12 @@ module _ (b : List ℕ) (h : Head) (n : ℕ) (e : head b ≡ got h n) where
       rw (← y) (ap suc (as-many R (t .list) (t .size) (t .is)))
 
   -- four places for each result
-  pub beside-four : {rs : List Result} → Reads (drop n b) rs → length (insertionPlaces b) ≡ 4 * length rs
-  beside-four {rs} R =
+  pub places-count : {rs : List Result} → Reads (drop n b) rs → length (insertionPlaces b) ≡ 4 * length rs
+  places-count {rs} R =
       let t = several-total extent 0 (drop n b) in
-      rw (beside-is (t .list) (t .size) (t .is)) (around-length n (t .list) ∙ ap (λ (k : ℕ). 4 * k) (as-many R (t .list) (t .size) (t .is)))
+      rw (places-is (t .list) (t .size) (t .is)) (around-length n (t .list) ∙ ap (λ (k : ℕ). 4 * k) (as-many R (t .list) (t .size) (t .is)))
 
   -- and none beside the word none
-  pub word-beside : (m : ℕ) → wordNone (drop n b) ≡ got tt m → insertionPlaces b ≡ []
+  pub word-places : (m : ℕ) → wordNone (drop n b) ≡ got tt m → insertionPlaces b ≡ []
   unfolding placesAround
-  word-beside m f = let xs = drop n b in beside-is [] 0 (several-none extent xs (extent-not xs (word-no-result xs tt m f)))
+  word-places m f = let xs = drop n b in places-is [] 0 (several-none extent xs (extent-not xs (word-no-result xs tt m f)))

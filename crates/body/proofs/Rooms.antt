@@ -8,7 +8,8 @@ use Rattle.lexis_rules.specs.Limits.{byteLimit}
 use Rattle.body.specs.Body.{reading}
 use Rattle.body.specs.Report.{Answer, report}
 use Rattle.body.proofs.Sizes.{report-size}
-use Rattle.body.proofs.Ways.{textOf, six-when, when-told}
+use Rattle.body.specs.Told.{textOf}
+use Rattle.body.proofs.Ways.{six-when, when-told}
 
 -- what a body within the limit has to write has at most three bytes for each of its bytes, and four more
 text-size : (body : List ℕ) → length body ≤ byteLimit → length (textOf (reading body)) ≤ 3 * length body + 4

@@ -4,7 +4,7 @@ use Prim.Native.Nat.{ℕ, _≤_, _<_}
 use native.Mathlib.Omega.{arith}
 use mathlib.Core.Path.{_≡_, refl, sym, ap, _∙_}
 use mathlib.Core.Bool.{Bool, true, false}
-use mathlib.Core.List.{List, [], _++_}
+use mathlib.Core.List.{List, []}
 use borrow.Author.Tests.{leb-true, leb-false}
 use lib.Dec.{leb}
 use lib.ListN.{length, drop}
@@ -12,43 +12,12 @@ use lib.Seq.{drop-append-seam}
 use Rattle.lexis_rules.specs.Limits.{byteLimit}
 use Rattle.body.specs.Body.{Reading, unreadable, malformed, newer, noResult, results, reading}
 use Rattle.body.specs.Answers.{leaves}
-use Rattle.body.specs.Report.{Answer, idLine, versionLine, noneLine, lines, ignoredOf, refusal, fitted, answer, report}
+use Rattle.body.specs.Told.{numberOf, textOf, countOf, hasReport, told}
+use Rattle.body.specs.Report.{Answer, refusal, fitted, answer, report}
 
 -- a refusal: a zero count, and nothing is written
 abbrev pub refusing : ℕ → ℕ → Answer
 refusing n p = record { number = n; place = p; ignored = 0; written = [] }
-
--- the number of an answer that has room
-abbrev pub numberOf : Reading → ℕ
-numberOf unreadable = 7
-numberOf malformed = 9
-numberOf (newer h) = 8
-numberOf (noResult i) = 0
-numberOf (results i rs) = 0
-
--- what it writes
-abbrev pub textOf : Reading → List ℕ
-textOf unreadable = []
-textOf malformed = []
-textOf (newer h) = idLine (h .identifier) ++ versionLine (h .version)
-textOf (noResult i) = idLine i ++ noneLine
-textOf (results i rs) = idLine i ++ lines rs
-
--- and how many results are ignored
-abbrev pub countOf : Reading → ℕ
-countOf unreadable = 0
-countOf malformed = 0
-countOf (newer h) = 0
-countOf (noResult i) = 0
-countOf (results i rs) = ignoredOf rs
-
--- a body that can be read has a report, of its results or of its newer version
-abbrev pub hasReport : Reading → Bool
-hasReport unreadable = false
-hasReport malformed = false
-hasReport (newer h) = true
-hasReport (noResult i) = true
-hasReport (results i rs) = true
 
 pub data Way (body : List ℕ) (room : ℕ) : Type 0 where
   long : byteLimit < length body → report body room ≡ refusing 1 0 → Way body room
@@ -125,10 +94,6 @@ bad-text (results i rs) e = absurd (let z : _≡_ {A = ℕ} 0 1 = cc in omega ar
 -- an answer with one number has no other
 other : {A : Type 0} (a b : Answer) (n : ℕ) → a ≡ b → a .number ≡ n → (b .number ≡ n → ⊥) → A
 other a b n e q not = absurd (not (sym (ap (λ (x : Answer). x .number) e) ∙ q))
-
--- what is told where there is room
-abbrev pub told : Reading → Answer
-told x = record { number = numberOf x; place = 0; ignored = countOf x; written = textOf x }
 
 module _ (body : List ℕ) (room : ℕ) where
   pub one-when : report body room .number ≡ 1 → byteLimit < length body

@@ -17,7 +17,7 @@ use Rattle.body.specs.Report.{lines}
 use Rattle.compose.specs.Entries.{Entry, lineOf}
 use Rattle.compose.specs.Bodies.{bodyOf}
 use Rattle.compose.specs.Compose.{State, front, final, entries, Answer, refusal, sized, answer, compose}
-use Rattle.compose.specs.Promise.{Bytes, Reports, Reported, linesWithFeeds, Begins, Placed, bodyFor, TooLong, TooShort, Fits}
+use Rattle.compose.specs.Promise.{Bytes, Reports, HasBody, linesWithFeeds, Begins, Placed, bodyFor, TooLong, TooShort, Fits}
 use Rattle.compose.proofs.Readback.{Each, joined}
 use Rattle.compose.proofs.Lines.{Good}
 use Rattle.compose.proofs.Runs.{Runs, Stuck, Walk, accepted, refused, walk, walkedAs}
@@ -97,7 +97,7 @@ accepted-is src es t q h f c w =
       body-reports = subst (λ (l : List Entry). Reports (bodyOf l) src) i m;
     }
 
-pub accepted-reported : (src : List ℕ) → Accepted src → Reported src
+pub accepted-reported : (src : List ℕ) → Accepted src → HasBody src
 accepted-reported src a = record { body = bodyFor src; bytes = a .body-bytes; reports = a .body-reports }
 
 -- what the lines answer
@@ -114,10 +114,10 @@ outcome src room = go (walk front 1 src)
         refuses (suc (length es)) (refused-placed src es t rest q h st c) (compose-refused src room (1 + length es) es w ∙ ap (refusal 11) (omega arith))
 
 -- no report has lines that are refused
-pub placed-none : (src : List ℕ) (p : ℕ) → Placed src p → Reported src → ⊥
+pub placed-none : (src : List ℕ) (p : ℕ) → Placed src p → HasBody src → ⊥
 placed-none src p h v = h .cannot (record { lines = src; reported = v; same = refl })
 
-pub reported-accepted : (src : List ℕ) → Reported src → Accepted src
+pub reported-accepted : (src : List ℕ) → HasBody src → Accepted src
 reported-accepted src v = go (outcome src 0)
   where
     go : Outcome src 0 → Accepted src

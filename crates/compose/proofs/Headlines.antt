@@ -14,7 +14,7 @@ use Rattle.body.specs.Report.{report}
 use Rattle.body.proofs.Readings.{report-is}
 use Rattle.compose.specs.Entries.{lineOf}
 use Rattle.compose.specs.Compose.{entries, Answer, refusal, compose}
-use Rattle.compose.specs.Promise.{Reports, Reported, Placed, saysLines, bodyFor, TooLong, TooShort, Fits}
+use Rattle.compose.specs.Promise.{Reports, HasBody, Placed, saysLines, bodyFor, TooLong, TooShort, Fits}
 use Rattle.compose.proofs.Readback.{joined}
 use Rattle.compose.proofs.Opened.{opened}
 use Rattle.compose.proofs.Reporting.{answer-more}
@@ -35,10 +35,10 @@ exampleBody =
 -- ==== For every list of lines it accepts, reading the written body gives the same lines back with an ignored count of zero
 
 -- of every body that would be written, however long it is and however little room there is
-pub body-reports : (src : List ℕ) → Reported src → Reports (bodyFor src) src
+pub body-reports : (src : List ℕ) → HasBody src → Reports (bodyFor src) src
 body-reports src v = reported-accepted src v .body-reports
 
-example-reported : Reported example
+example-reported : HasBody example
 unfolding opened
 example-reported = record { body = exampleBody; bytes = refl; reports = refl }
 
@@ -63,12 +63,12 @@ unfolding opened
 round-trip-instance = round-trip example 200 refl 148 (lit≤ tt)
 
 -- and what is written for the lines is written for what they say, line by line
-pub lines-are : (src : List ℕ) → Reported src → joined lineOf (entries src .items) ≡ src
+pub lines-are : (src : List ℕ) → HasBody src → joined lineOf (entries src .items) ≡ src
 lines-are src v = reported-accepted src v .lines-are
 
 -- ==== It refuses exactly when no well-formed body without ignored results has that report, with number 11
 
-pub refused-none : (src : List ℕ) (room : ℕ) → compose src room .number ≡ 11 → Reported src → ⊥
+pub refused-none : (src : List ℕ) (room : ℕ) → compose src room .number ≡ 11 → HasBody src → ⊥
 refused-none src room e v =
     elim (answered src room) [
       | answers0 f q ↦ not-both _ _ 11 q e refl
@@ -77,7 +77,7 @@ refused-none src room e v =
       | answers11 p h q ↦ placed-none src p h v
     ]
 
-pub none-refused : (src : List ℕ) (room : ℕ) → (Reported src → ⊥) → compose src room .number ≡ 11
+pub none-refused : (src : List ℕ) (room : ℕ) → (HasBody src → ⊥) → compose src room .number ≡ 11
 none-refused src room n =
     elim (answered src room) [
       | answers0 f q ↦ absurd (n (f .0))
@@ -87,7 +87,7 @@ none-refused src room n =
     ]
 
 -- an `id` line alone is refused, whatever the room
-id-alone : Reported (bytes "id\ta\n") → ⊥
+id-alone : HasBody (bytes "id\ta\n") → ⊥
 unfolding opened
 id-alone = refused-none (bytes "id\ta\n") 0 refl
 
@@ -95,6 +95,7 @@ id-alone-refused : (room : ℕ) → compose (bytes "id\ta\n") room .number ≡ 1
 id-alone-refused room = none-refused (bytes "id\ta\n") room id-alone
 
 -- ==== Its place is the first line, from 1, up to which the lines can begin no such report (a line without LF can't), or, where they only
+
 -- stop too early, one more than their count
 
 pub placed : (src : List ℕ) (room : ℕ) → compose src room .number ≡ 11 → Placed src (compose src room .place)

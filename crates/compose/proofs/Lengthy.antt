@@ -14,7 +14,7 @@ use Rattle.authserv_rules.specs.Identifier.{identifierToken}
 use Rattle.compose.specs.Entries.{Entry, identified, unstated, lineOf, each, whole, quotable, isText}
 use Rattle.compose.specs.Bodies.{guarded, quote, bareOr, piece, bodyOf}
 use Rattle.compose.specs.Compose.{front, closed, goes, final, entries}
-use Rattle.compose.specs.Promise.{Reported, bodyFor}
+use Rattle.compose.specs.Promise.{HasBody, bodyFor}
 use Rattle.compose.proofs.Readback.{Each, joined}
 use Rattle.compose.proofs.Lines.{Good}
 use Rattle.compose.proofs.Runs.{Runs, over, more, walked-all}
@@ -58,7 +58,7 @@ entries-run : (n : ℕ) → Runs front (lengthyEntries n) closed
 unfolding goes
 entries-run n = more refl (more refl over)
 
-pub lengthy-reported : (n : ℕ) → Reported (lengthy n)
+pub lengthy-reported : (n : ℕ) → HasBody (lengthy n)
 unfolding lengthy final
 lengthy-reported n = written-reported (lengthyEntries n) closed (entries-run n) (entries-good n) refl
 

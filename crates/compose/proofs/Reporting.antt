@@ -19,7 +19,7 @@ use Rattle.body.specs.Newer.{wellFormed}
 use Rattle.compose.specs.Entries.{Entry, identified, unstated, lineOf, isText}
 use Rattle.compose.specs.Bodies.{piece}
 use Rattle.compose.specs.Compose.{State, front, final, Answer, refusal, answer}
-use Rattle.compose.specs.Promise.{Reports, Reported, saysLines}
+use Rattle.compose.specs.Promise.{Reports, HasBody, saysLines}
 use Rattle.compose.proofs.Readback.{Each, joined}
 use Rattle.compose.proofs.Results.{Stated, resultPieces}
 use Rattle.compose.proofs.ReadResults.{Byted, Named}
@@ -72,7 +72,7 @@ written-reports es t r h f = go (spoken r refl f)
         let k : Each Good (identified i ∷ flat (s ∷ ss)) = subst (λ (l : List Entry). Each Good l) e h in
         rw e (results-report i s ss (k .0 .0) (good-stated (s ∷ ss) o (k .1)))
 
-pub written-reported : (es : List Entry) (t : State) → Runs front es t → Each Good es → final t ≡ true → Reported (joined lineOf es)
+pub written-reported : (es : List Entry) (t : State) → Runs front es t → Each Good es → final t ≡ true → HasBody (joined lineOf es)
 written-reported es t r h f = record { body = joined piece es; bytes = body-bytes es h; reports = written-reports es t r h f }
 
 -- ==== every report of a body without ignored results is accepted
@@ -108,7 +108,7 @@ understood-all : (rs : List Result) → Each (λ r. understood r ≡ true) rs �
 understood-all [] u h = tt
 understood-all (r ∷ rs) u h = (understood-stated r (u .0) (h .0), understood-all rs (u .1) (h .1))
 
-pub reported-told : (ls : List ℕ) → Reported ls → Told ls
+pub reported-told : (ls : List ℕ) → HasBody ls → Told ls
 reported-told ls v = go (said (v .body) (well-formed (length ls) ls (reading (v .body)) (v .reports)) (v .bytes))
   where
     of-none : (i : List ℕ) → reading (v .body) ≡ noResult i → fitted (length ls) 0 (idLine i ++ noneLine) 0 ≡ saysLines ls

@@ -24,7 +24,7 @@ abbrev pub Reports : List ℕ → List ℕ → Type 0
 Reports body lines = report.answer (length lines) (reading body) ≡ record { number = 0; place = 0; ignored = 0; written = lines }
 
 -- 02, ticket [1]: some such body has that report
-pub record Reported (lines : List ℕ) : Type 0 where
+pub record HasBody (lines : List ℕ) : Type 0 where
   pub body : List ℕ
   pub bytes : Bytes body
   pub reports : Reports body lines
@@ -43,7 +43,7 @@ linesWithFeeds (x ∷ xs) = elim (eqb x (code "\n")) [ true ↦ (x ∷ []) ∷ l
 -- has no others: the lines are that report
 pub record Begins (k : ℕ) (src : List ℕ) : Type 0 where
   pub lines : List ℕ
-  pub reported : Reported lines
+  pub reported : HasBody lines
   pub same : take k (linesWithFeeds lines) ≡ take k (linesWithFeeds src)
 
 -- 02, ticket [1]: Its place is the first line, from 1, up to which the lines can begin no such report .. or, where they only stop too early,
@@ -64,12 +64,12 @@ bodyFor src = bodyOf (entries src .items)
 
 -- 02, ticket [1]: After 11 come 1, for the body to be written
 abbrev pub TooLong : List ℕ → Type 0
-TooLong src = Reported src × (byteLimit < length (bodyFor src))
+TooLong src = HasBody src × (byteLimit < length (bodyFor src))
 
 -- 02, ticket [1]: and 6; 01, Answer numbers: lent output shorter than the whole output
 abbrev pub TooShort : List ℕ → ℕ → Type 0
-TooShort src room = Reported src × (length (bodyFor src) ≤ byteLimit) × (room < length (bodyFor src))
+TooShort src room = HasBody src × (length (bodyFor src) ≤ byteLimit) × (room < length (bodyFor src))
 
 -- 01, Answer numbers: done
 abbrev pub Fits : List ℕ → ℕ → Type 0
-Fits src room = Reported src × (length (bodyFor src) ≤ byteLimit) × (length (bodyFor src) ≤ room)
+Fits src room = HasBody src × (length (bodyFor src) ≤ byteLimit) × (length (bodyFor src) ≤ room)

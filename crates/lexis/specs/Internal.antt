@@ -1,4 +1,5 @@
--- What private functions of the code say of their answers. No public contract cites these. Assumes nothing: these are definitions.
+-- What private functions of the code say of their answers, and a fresh cursor. Of these only that one is in a public contract, that of
+-- `Cursor::fresh`. Assumes nothing: these are definitions.
 use Prim.Native.Nat.{ℕ, zero, suc, _+_, _*_}
 use mathlib.Core.Bool.{Bool, true, false, cond}
 use lib.Dec.{ltb}

@@ -3,3 +3,4 @@ pub mod EntrySteps
 pub mod Feeds
 pub mod Spelt
 pub mod Owners
+pub mod Headlines

@@ -30,3 +30,12 @@ listedAt s w = listedFrom (w .at) (w .count) (drop (w .at) s)
 -- the list is good, or bad from the start of its first bad entry
 abbrev pub checkedOf : Walked (List ℕ) → Checked
 checkedOf w = elim (w .number) [ zero ↦ checked.Good | suc n ↦ checked.Bad (w .place) ]
+
+-- 01, Answer numbers: the number and the place of each case
+abbrev pub numberOf : Checked → ℕ
+numberOf checked.Good = 0
+numberOf (checked.Bad p) = 5
+
+abbrev pub placeOf : Checked → ℕ
+placeOf checked.Good = 0
+placeOf (checked.Bad p) = p

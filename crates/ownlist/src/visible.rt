@@ -25,7 +25,7 @@ fn is_other(b: u8) -> bool
     (b < 33) | (b > 126)
 }
 
-// Whether one of n bytes is not visible, in the same way as `has_end` of lib.rt.
+// Whether one of n bytes is not visible, in the same way as `has_end` of `block`.
 fn has_other(s: &[u8], at: usize, n: usize) -> bool
     requires { ⌜ at + n ≤ length (now s) ⌝ }
     ensures { λ r. ⌜ (r ≡ false → Reaches visible (now (s .entry)) at (at + n)) ⌝ }

@@ -1,52 +1,57 @@
 -- Demand 2: the report of a field, the stripped block and the judgement of a chain are those of RFC 8601, RFC 8617 and document 01. Each theorem
--- stands under the sentence that it proves, with an instance where it has premises. Assumes nothing.
+-- stands under the sentence that it proves, with examples. Assumes nothing.
 use Prim.Native.Nat.{ℕ, _+_, _*_, _≤_, _<_}
 use native.Mathlib.Omega.{arith}
 use mathlib.Core.Path.{_≡_, refl, sym, ap, _∙_}
-use mathlib.Core.Bool.{true, false}
-use mathlib.Core.List.{List, [], _∷_, _++_, List·Memᴰ}
+use mathlib.Core.Bool.{true, false, cond}
+use mathlib.Core.List.{List, [], _∷_, _++_, map, List·Memᴰ}
 use lib.Dec.{lit≤}
 use lib.ListN.{length, drop}
 use Rattle.reading.specs.Texts.{bytes}
+use Rattle.reading.proofs.Cases.{copies}
 use Rattle.lexis_rules.specs.Limits.{byteLimit}
 use Rattle.block_rules.specs.Fields.{Field, fields, bytesOf}
 use Rattle.authserv_rules.specs.OwnList.{ownList}
 use Rattle.body.specs.Body.{results, reading}
 use Rattle.body.specs.Report.{idLine, lines, ignoredOf}
 use Rattle.resinfo_rules.specs.Results.{Result}
-use Rattle.body.proofs.Opened as body
-use Rattle.body.proofs.Ways as reporting
+use Rattle.body.specs.Told.{numberOf, textOf, countOf}
+use Rattle.body.proofs.Opened as body-opened
+use Rattle.body.proofs.Ways as report-ways
 use Rattle.body.proofs.Rooms as rooms
 use Rattle.strip_rules.specs.Strip.{strip}
 use Rattle.strip_rules.specs.ByFields.{Kept}
-use Rattle.strip_rules.proofs.Examples as stripped
-use Rattle.strip_rules.proofs.Headlines as stripping
-use Rattle.strip_rules.proofs.ByFields as kept
-use Rattle.strip_rules.proofs.Ways as ways
-use Rattle.arc_rules.specs.Chain.{outcome, built, validFor}
+use Rattle.strip_rules.specs.Told.{Known, keptFields, removedFields}
+use Rattle.strip_rules.proofs.Examples as strip-opened
+use Rattle.strip_rules.proofs.Headlines as strip-laws
+use Rattle.strip_rules.proofs.ByFields as strip-fields
+use Rattle.strip_rules.proofs.Ways as strip-ways
+use Rattle.arc_rules.specs.Chain.{outcome, built, failed, validFor, passes, oldestPass}
+use Rattle.arc_rules.specs.declared.Judged.{Judged}
+use Rattle.arc_rules.specs.Told as judge-told
 use Rattle.arc_rules.specs.Accepted.{kindOf, isArc, Accepted}
-use Rattle.arc_rules.proofs.Opened as arc
-use Rattle.arc_rules.proofs.Ways as judging
-use Rattle.arc_rules.proofs.Headlines as judged
+use Rattle.arc_rules.proofs.Opened as arc-opened
+use Rattle.arc_rules.proofs.Ways as judge-ways
+use Rattle.arc_rules.proofs.Headlines as judge-laws
 use Rattle.promises.specs.Exactly.{Exactly}
 use Rattle.promises.specs.Calls.{strips, reports, judges}
 
 -- ==== The report of a field is the one RFC 8601 and document 01 give
 
 -- what a body within the limit says is told whole, in front of the lent buffer, where there is room for it
-pub report-told : (body old : List ℕ) → length body ≤ byteLimit → length (reporting.textOf (reading body)) ≤ length old
+pub report-told : (body old : List ℕ) → length body ≤ byteLimit → length (textOf (reading body)) ≤ length old
     → reports body old
     ≡ record {
       answer =
           record {
-            number = reporting.numberOf (reading body);
+            number = numberOf (reading body);
             place = 0;
-            written = length (reporting.textOf (reading body));
-            ignored = reporting.countOf (reading body);
+            written = length (textOf (reading body));
+            ignored = countOf (reading body);
           };
-      left = reporting.textOf (reading body) ++ drop (length (reporting.textOf (reading body))) old;
+      left = textOf (reading body) ++ drop (length (textOf (reading body))) old;
     }
-report-told body old l r = rw (reporting.when-told body (length old) l r)
+report-told body old l r = rw (report-ways.when-told body (length old) l r)
 
 -- so the results of a well-formed field are its lines but for those that are ignored, and how many these are
 pub report-results : (body i : List ℕ) (rs : List Result) (old : List ℕ) → length body ≤ byteLimit → reading body ≡ results i rs
@@ -56,16 +61,23 @@ pub report-results : (body i : List ℕ) (rs : List Result) (old : List ℕ) →
       answer = record { number = 0; place = 0; written = length (idLine i ++ lines rs); ignored = ignoredOf rs };
       left = (idLine i ++ lines rs) ++ drop (length (idLine i ++ lines rs)) old;
     }
-report-results body i rs old l e r = rw (reporting.when-told body (length old) l (rw e r), e)
+report-results body i rs old l e r = rw (report-ways.when-told body (length old) l (rw e r), e)
 
--- document 01's whole example: 56 bytes, which fit 56 and not 55
+-- document 01's whole example: 56 bytes, in front of the lent ones
 report-example : reports (bytes " example.com; spf=pass smtp.mailfrom=example.net") (bytes "........................................................!")
     ≡ record {
       answer = record { number = 0; place = 0; written = 56; ignored = 0 };
       left = bytes "id\texample.com\nm\tspf\tpass\np\tsmtp\tmailfrom\tt\texample.net\n!";
     }
-unfolding body.opened
+unfolding body-opened.opened
 report-example = refl
+
+-- they fit 56 and not 55
+report-example-room :
+    map (λ (old : List ℕ). reports (bytes " example.com; spf=pass smtp.mailfrom=example.net") old .answer) (copies 56 46 ∷ copies 55 46 ∷ [])
+    ≡ record { number = 0; place = 0; written = 56; ignored = 0 } ∷ record { number = 6; place = 56; written = 0; ignored = 0 } ∷ []
+unfolding body-opened.opened
+report-example-room = refl
 
 -- three times the bytes of the body and four more are always room enough
 pub report-room : (body old : List ℕ) → 3 * length body + 4 ≤ length old → reports body old .answer .number ≡ 6 → ⊥
@@ -82,30 +94,37 @@ module _ (block list old : List ℕ) (z : strips block list old .answer .number 
   pub strip-by-fields : (bytesOf (fields block .items) ≡ block)
       × (Kept (ownList list .items) (fields block .items) (fields (strip block list (length old) .written) .items)
       × (strips block list old .left ≡ bytesOf (fields (strip block list (length old) .written) .items) ++ drop (strips block list old .answer .kept) old))
-  strip-by-fields = kept.strip-kept block list old z
+  strip-by-fields = strip-fields.strip-kept block list old z
 
   -- kept plus removed bytes make the block length
   pub strip-sum : strips block list old .answer .kept + strips block list old .answer .removed ≡ length block
-  strip-sum = stripping.strip-sum block list (length old) z
+  strip-sum = strip-laws.strip-sum block list (length old) z
 
-  -- 02, ticket [14]: stripping the stripped block with the same list gives the same bytes and removes nothing
-  pub strip-twice : strip (strip block list (length old) .written) list (length old)
+  -- Returned: kept bytes, removed bytes and removed fields, each a sum over the fields
+  pub strip-counts : (strips block list old .answer .kept ≡ length (bytesOf (keptFields block list)))
+      × ((strips block list old .answer .removed ≡ length (bytesOf (removedFields block list)))
+      × (strips block list old .answer .fields ≡ length (removedFields block list)))
+  strip-counts = let w = strip-ways.zero-when block list (length old) z in let e = strip-ways.when-zero block list (length old) (w .0) (w .1) in (rw e, (rw e, rw e))
+
+  -- 02, ticket [14], its last sentence: stripping the stripped block with the same list, and room for it, gives the same bytes and removes nothing
+  pub strip-twice : (room : ℕ) → strips block list old .answer .kept ≤ room
+      → strip (strip block list (length old) .written) list room
       ≡ record {
         number = 0;
         place = 0;
-        kept = strip block list (length old) .kept;
+        kept = strips block list old .answer .kept;
         removed = 0;
         fields = 0;
         written = strip block list (length old) .written;
       }
-  strip-twice = stripping.strip-twice block list (length old) z
+  strip-twice = strip-laws.strip-twice block list (length old) z
 
 -- document 01's sample: the first field is removed, the second is kept
 strip-example :
     Kept (bytes "example.com" ∷ [])
     (fields (bytes "Authentication-Results : Example.COM; none\r\nFrom: a@b.example\r\n") .items)
     (fields (bytes "From: a@b.example\r\n") .items)
-unfolding stripped.opened
+unfolding strip-opened.opened
 strip-example =
     strip-by-fields (bytes "Authentication-Results : Example.COM; none\r\nFrom: a@b.example\r\n") (bytes "example.com\n") (bytes "....................") refl .1 .0
 
@@ -113,34 +132,57 @@ strip-example =
 pub strip-repeated : (block list list′ : List ℕ) (room : ℕ) (e : List ℕ) (xs ys zs : List (List ℕ))
     → ownList list ≡ record { items = xs ++ (e ∷ (ys ++ zs)); number = 0; place = 0 }
     → ownList list′ ≡ record { items = xs ++ (e ∷ (ys ++ (e ∷ zs))); number = 0; place = 0 } → strip block list′ room ≡ strip block list room
-strip-repeated = stripping.strip-repeated
+strip-repeated = strip-laws.strip-repeated
 
 repeated-example : (block : List ℕ) (room : ℕ) → strip block (bytes "a\nb\na\n") room ≡ strip block (bytes "a\nb\n") room
-unfolding stripped.opened
+unfolding strip-opened.opened
 repeated-example block room = strip-repeated block (bytes "a\nb\n") (bytes "a\nb\na\n") room (bytes "a") [] (bytes "b" ∷ []) [] refl refl
 
 -- ==== An ARC structure is accepted exactly when every ARC field reads, and instances 1 to N, N from 1 to 50, each have one field of each
 -- kind and the chain values RFC 8617 prescribes
 
 -- for every block within the limit whose walk comes to its end, and N verdicts from 0 to 3
-pub judge-built : (block verdicts : List ℕ) (n : ℕ) → judging.Known block → validFor n verdicts ≡ true
+pub judge-built : (block verdicts : List ℕ) (n : ℕ) → judge-told.Known block → validFor n verdicts ≡ true
     → Exactly ((judges block verdicts .outcome ≡ 2) × (judges block verdicts .instances ≡ n)) (Accepted (fields block .items) n)
-judge-built = judged.judge-built
+judge-built = judge-laws.judge-built
 
 -- one set, in an order of its own, with a field of another name between
-built-example : Accepted (fields judged.one .items) 1
-unfolding arc.opened
-built-example = judge-built judged.one (3 ∷ []) 1 (lit≤ tt, refl) refl .0 (refl, refl)
+built-example : Accepted (fields judge-laws.one .items) 1
+unfolding arc-opened.opened
+built-example = judge-built judge-laws.one (3 ∷ []) 1 (lit≤ tt, refl) refl .0 (refl, refl)
 
 -- and whatever the verdicts, the outcome of its fields
 pub built-exactly : (fs : List Field) (n : ℕ) → Exactly (outcome fs ≡ built n) (Accepted fs n)
-built-exactly = judged.built-exactly
+built-exactly = judge-laws.built-exactly
 
--- none if there are no such fields, whatever the verdicts
-pub judge-none : (block verdicts : List ℕ) → judging.Known block → ((f : Field) → List·Memᴰ f (fields block .items) → isArc (kindOf f) ≡ false)
-    → judges block verdicts ≡ record { number = 0; place = 0; outcome = 0; reason = 0; field = 0; instances = 0; status = 0; oldest = 0 }
-judge-none block verdicts k h = rw (judged.none-whatever block (k .0) (k .1) h verdicts)
+-- built: the status is pass when all N seals and signature N are good, and then there is an oldest-pass; else it is fail
+pub judge-status : (block verdicts : List ℕ) (n : ℕ) → judge-told.Known block → outcome (fields block .items) ≡ built n → validFor n verdicts ≡ true
+    → judges block verdicts
+    ≡ record {
+      number = 0;
+      place = 0;
+      outcome = 2;
+      reason = 0;
+      field = 0;
+      instances = n;
+      status = cond (passes verdicts) 1 2;
+      oldest = cond (passes verdicts) (oldestPass verdicts) 0;
+    }
+judge-status block verdicts n k o v = rw (judge-ways.when-built block verdicts n k o v)
+
+-- failed: the first reason that applies, the field that it names, and status fail
+pub judge-failed : (block verdicts : List ℕ) (r f : ℕ) → judge-told.Known block → outcome (fields block .items) ≡ failed r f
+    → judges block verdicts ≡ record { number = 0; place = 0; outcome = 1; reason = r; field = f; instances = 0; status = 2; oldest = 0 }
+judge-failed block verdicts r f k o = rw (judge-ways.when-fails block verdicts r f k o)
+
+-- none exactly where there are no such fields, whatever the verdicts
+pub judge-none : (block verdicts : List ℕ) → judge-told.Known block
+    → Exactly (judges block verdicts ≡ record { number = 0; place = 0; outcome = 0; reason = 0; field = 0; instances = 0; status = 0; oldest = 0 })
+    ((f : Field) → List·Memᴰ f (fields block .items) → isArc (kindOf f) ≡ false)
+judge-none block verdicts k =
+    let l = judge-laws.none-exactly block verdicts k in
+    ((λ e. l .0 (ap (λ (x : Judged). x .number) e, ap (λ (x : Judged). x .outcome) e)), (λ h. rw (l .1 h)))
 
 -- verdicts are read only where the chain is built
 pub judge-unread : (block vs ws : List ℕ) → (judges block vs .outcome ≡ 2 → ⊥) → (judges block vs .number ≡ 10 → ⊥) → judges block vs ≡ judges block ws
-judge-unread block vs ws a b = rw (judged.unread-unless-built block vs ws a b)
+judge-unread block vs ws a b = rw (judge-laws.unread-unless-built block vs ws a b)

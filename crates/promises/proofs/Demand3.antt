@@ -10,27 +10,26 @@ use Rattle.resinfo_rules.specs.Results.{Result, one}
 use Rattle.body.specs.Body.{reading}
 use Rattle.body.specs.Newer.{Names, WithinLimit, WellFormed, resultsOf, IsResult}
 use Rattle.body.specs.Beside.{insertionPlaces, insertAt}
-use Rattle.body.proofs.Opened as body
+use Rattle.body.proofs.Opened as body-opened
 use Rattle.body.proofs.Demand3 as demand3
-use Rattle.body.proofs.Ignored.{putIn-length}
+use Rattle.body.proofs.Ignored.{insertAt-length}
 use Rattle.promises.specs.Calls.{Reporting, reports}
 
 -- ==== If two fields name the same header version, other than 1, and have the same bytes up to the end of that number, they get the same
-
 -- answer and report, whatever follows it in each
 
+-- for fields within the size limit
 pub newer-header : (b c v : List ℕ) (n m : ℕ) → Names b v n → Names c v m → (v ≡ one → ⊥) → take n b ≡ take m c → WithinLimit b → WithinLimit c
     → (old : List ℕ) → reports b old ≡ reports c old
 newer-header b c v n m B C ne s l k old = rw (demand3.newer-header b c v n m B C ne s l k (length old))
 
 header-example : (old : List ℕ) → reports (bytes "a(b) 002;;\\ what ever") old ≡ reports (bytes "a(b) 002") old
-unfolding body.opened
+unfolding body-opened.opened
 header-example =
     newer-header (bytes "a(b) 002;;\\ what ever") (bytes "a(b) 002") (bytes "2") 8 8 (record { identifier = bytes "a"; reads = refl })
     (record { identifier = bytes "a"; reads = refl }) demand3.two-not-one refl (lit≤ tt) (lit≤ tt)
 
 -- ==== Take any well-formed version 1 field with at least one result, and put any well-formed result whose method version isn't 1 before or
-
 -- after any of its results: the answer stays, the report is the same byte for byte, and where it fits the ignored count is one higher
 
 -- x is y with one ignored result more
@@ -41,6 +40,7 @@ pub record OneMoreIgnored (x y : Reporting) : Type 0 where
   pub left : x .left ≡ y .left
   pub ignored : y .answer .number ≡ 0 → x .answer .ignored ≡ suc (y .answer .ignored)
 
+-- for every such field that is within the size limit with the result put in
 pub newer-result : (b w : List ℕ) (r : Result) → WellFormed b → IsResult w r → (r .methodspec .version ≡ one → ⊥)
     → (k : ℕ) → List·Memᴰ k (insertionPlaces b) → WithinLimit (insertAt k w b) → (old : List ℕ) → OneMoreIgnored (reports (insertAt k w b) old) (reports b old)
 newer-result b w r good W ne k K l old =
@@ -66,10 +66,10 @@ newer = bytes ";dkim/2 = pass reason=\"a;b\" \r\n header.(x)d=e"
 
 result-example : (k : ℕ) → List·Memᴰ k (2 ∷ 6 ∷ 36 ∷ 37 ∷ 36 ∷ 37 ∷ 48 ∷ 53 ∷ []) → (old : List ℕ)
     → OneMoreIgnored (reports (insertAt k newer field) old) (reports field old)
-unfolding body.opened
-result-example k K = newer-result field newer _ refl refl demand3.two-not-one k K (rw (putIn-length k newer field) (lit≤ tt))
+unfolding body-opened.opened
+result-example k K = newer-result field newer _ refl refl demand3.two-not-one k K (rw (insertAt-length k newer field) (lit≤ tt))
 
 -- the word none is well-formed, and has no place to put a result
 none-example : WellFormed (bytes "a; none") × (insertionPlaces (bytes "a; none") ≡ [])
-unfolding body.opened
+unfolding body-opened.opened
 none-example = (refl, refl)

@@ -37,6 +37,7 @@ identifier-plain = identifiers.identifier-plain
 
 -- ==== Decode labels that start with xn-- by Punycode: a label and what it decodes to are equal, at any place of an identifier
 
+-- what it decodes to isn't such a label itself, written in ASCII: labels are decoded once
 pub identifier-label : (l u : List ℕ) → oneOf l (code ".") ≡ false → prefixed l ≡ true → decoded (drop 4 l) ≡ some u → (basic u && prefixed u) ≡ false
     → sameIdentifier l (utf8s u) ≡ true
 identifier-label = identifiers.identifier-label

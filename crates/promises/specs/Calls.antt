@@ -5,16 +5,18 @@ use mathlib.Core.List.{List}
 use lib.ListN.{length}
 use Rattle.strip_rules.specs.declared.Stripped.{Stripped}
 use Rattle.strip_rules.specs.Strip.{strip}
-use Rattle.strip_rules.specs.Answers as stripping
+use Rattle.strip_rules.specs.Answers as strip-answers
 use Rattle.body.specs.declared.Reported.{Reported}
 use Rattle.body.specs.Report.{report}
-use Rattle.body.specs.Answers as reporting
+use Rattle.body.specs.Answers as report-answers
 use Rattle.compose.specs.declared.Written.{Written}
 use Rattle.compose.specs.Compose.{compose}
-use Rattle.compose.specs.Answers as writing
+use Rattle.compose.specs.Answers as write-answers
 use Rattle.arc_rules.specs.declared.Judged.{Judged}
 use Rattle.arc_rules.specs.Chain.{judge}
-use Rattle.arc_rules.specs.Answers as judging
+use Rattle.arc_rules.specs.Answers as judge-answers
+use Rattle.fields_rules.specs.declared.Step.{Step}
+use Rattle.fields_rules.specs.Steps.{stepFrom}
 
 -- `strip::strip(block, list, out)`
 pub record Stripping : Type 0 where
@@ -23,7 +25,7 @@ pub record Stripping : Type 0 where
 
 abbrev pub strips : List ℕ → List ℕ → List ℕ → Stripping
 strips block list old =
-    record { answer = stripping.answerOf (strip block list (length old)); left = stripping.leaves (strip block list (length old)) old }
+    record { answer = strip-answers.answerOf (strip block list (length old)); left = strip-answers.leaves (strip block list (length old)) old }
 
 -- `report::report(body, out)`
 pub record Reporting : Type 0 where
@@ -31,7 +33,7 @@ pub record Reporting : Type 0 where
   pub left : List ℕ
 
 abbrev pub reports : List ℕ → List ℕ → Reporting
-reports body old = record { answer = reporting.answerOf (report body (length old)); left = reporting.leaves (report body (length old)) old }
+reports body old = record { answer = report-answers.answerOf (report body (length old)); left = report-answers.leaves (report body (length old)) old }
 
 -- `writing::write(lines, out)`
 pub record Writing : Type 0 where
@@ -39,8 +41,12 @@ pub record Writing : Type 0 where
   pub left : List ℕ
 
 abbrev pub writes : List ℕ → List ℕ → Writing
-writes lines old = record { answer = writing.answerOf (compose lines (length old)); left = writing.leaves (compose lines (length old)) old }
+writes lines old = record { answer = write-answers.answerOf (compose lines (length old)); left = write-answers.leaves (compose lines (length old)) old }
 
 -- `arc::judge(block, verdicts)`, which is lent no buffer
 abbrev pub judges : List ℕ → List ℕ → Judged
-judges block verdicts = judging.answerOf (judge block verdicts)
+judges block verdicts = judge-answers.answerOf (judge block verdicts)
+
+-- `fields::field_from(block, from)`, a step of the walking reader
+abbrev pub steps : List ℕ → ℕ → Step
+steps block place = stepFrom block place

@@ -1,5 +1,5 @@
-// One result of a field body (RFC 8601: resinfo): its grammar and its abstract syntax (specs/); its parts, property values and steps, read
-// at places; and the table of methods.
+// One result of a field body (RFC 8601: resinfo): its parts and steps, read at places. Its grammar is in resinfo_rules, property values in
+// values, the table in methods.
 use parts::Label;
 use values::Found;
 use values::Value;

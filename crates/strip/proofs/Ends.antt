@@ -27,7 +27,7 @@ use Rattle.strip_rules.specs.Strip.{Answer, refuse, removedOf, keptOf, done, fi
 use Rattle.strip.specs.Internal.{Sifted}
 use Rattle.strip_rules.specs.Answers.{answerOf, leaves}
 use Rattle.strip_rules.proofs.Laws.{Listed}
-use Rattle.strip_rules.proofs.Alike.{same-sifted}
+use Rattle.strip_rules.proofs.Alike.{same-stripped}
 
 module _ (list : List ℕ) where
   good-zero : Good ≡ checkedOf (ownList list) → ownList list .number ≡ 0
@@ -116,7 +116,7 @@ pub answer-spelled : (s list old new : List ℕ) (r : Stripped) (first own : Lis
 answer-spelled s list old new r first own n w h a =
     let f : take n own ≡ spelledList (ownList list .items) = put-front w h in
     let e : stripFields s (amongSpelled (linesOf (take n own))) (length old) ≡ stripFields s (Listed list) (length old) =
-    rw f (same-sifted (amongSpelled (linesOf (spelledList (ownList list .items)))) (Listed list) (list-among list) s (length old)) in
+    rw f (same-stripped (amongSpelled (linesOf (spelledList (ownList list .items)))) (Listed list) (list-among list) s (length old)) in
     (a .0 ∙ ap answerOf e, a .1 ∙ ap (λ (x : Answer). leaves x old) e)
 
 -- ==== the whole
@@ -151,5 +151,5 @@ module _ (s list old : List ℕ) (r : Stripped) (big : Bool) (b : big ≡ ltb by
       answer-plain t e z a =
           let l : spelledList (ownList list .items) ≡ list = list-plain list (good-zero list g) (sym e ∙ z) in
           let q : stripFields s (amongSpelled (linesOf list)) (length old) ≡ stripFields s (Listed list) (length old) =
-          same-sifted (amongSpelled (linesOf list)) (Listed list) (λ i. rw l at (list-among list i)) s (length old) in
+          same-stripped (amongSpelled (linesOf list)) (Listed list) (λ i. rw l at (list-among list i)) s (length old) in
           answer-listed (a .0 ∙ ap answerOf q, a .1 ∙ ap (λ (x : Answer). leaves x old) q)

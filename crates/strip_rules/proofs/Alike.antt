@@ -42,9 +42,9 @@ module _ (listed listed′ : List ℕ → Bool) (same : (i : List ℕ) → liste
   same-stays : (fs : List Field) → keptOf listed fs ≡ keptOf listed′ fs
   same-stays = same-select (λ f. not (isRemoved listed f)) (λ f. not (isRemoved listed′ f)) (λ f. ap not (same-goes f))
 
-  pub same-sifted : (block : List ℕ) (room : ℕ) → stripFields block listed room ≡ stripFields block listed′ room
+  pub same-stripped : (block : List ℕ) (room : ℕ) → stripFields block listed room ≡ stripFields block listed′ room
   unfolding stripFields
-  same-sifted block room =
+  same-stripped block room =
       unless-same (fields block) (λ fs. fitted (keptOf listed fs) (removedOf listed fs) room) (λ fs. fitted (keptOf listed′ fs) (removedOf listed′ fs) room) each
     where
       each : (fs : List Field) → fitted (keptOf listed fs) (removedOf listed fs) room ≡ fitted (keptOf listed′ fs) (removedOf listed′ fs) room

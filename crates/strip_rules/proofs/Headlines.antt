@@ -1,6 +1,6 @@
 -- What stripping promises beyond its contract. Each theorem is about the definition that the contract of `strip::strip` cites.
 -- Assumes nothing.
-use Prim.Native.Nat.{ℕ, zero, suc, _+_}
+use Prim.Native.Nat.{ℕ, zero, suc, _+_, _≤_}
 use native.Mathlib.Omega.{arith}
 use mathlib.Core.Path.{_≡_, refl, sym, ap, _∙_}
 use mathlib.Core.Bool.{Bool, true, false, not, _||_}
@@ -17,7 +17,7 @@ use Rattle.authserv_rules.specs.Listed.{among}
 use Rattle.strip_rules.specs.Strip.{isRemoved, removedOf, keptOf, Answer, refuse, fitted, orRefusal, stripFields, strip}
 use Rattle.strip_rules.specs.Answers.{leaves}
 use Rattle.strip_rules.proofs.Laws.{Listed, strip-to, strip-is, strip-sound}
-use Rattle.strip_rules.proofs.Alike.{same-sifted}
+use Rattle.strip_rules.proofs.Alike.{same-stripped}
 
 -- where the first answers are not given
 module _ (block list : List ℕ) (room : ℕ) where
@@ -82,11 +82,12 @@ module _ (block list : List ℕ) (room : ℕ) (z : strip block list room .number
       let s = strip-sound block list room z in
       rw (s .is) (select-fields (λ f. not (isRemoved (Listed list) f)) block (s .fielded))
 
-  -- Stripping the stripped block with the same list gives the same bytes and removes nothing.
-  pub strip-twice : strip (strip block list room .written) list room
+  -- Stripping the stripped block with the same list, and room for it, gives the same bytes and removes nothing.
+  pub strip-twice : (room′ : ℕ) → strip block list room .kept ≤ room′
+      → strip (strip block list room .written) list room′
       ≡ record { number = 0; place = 0; kept = strip block list room .kept; removed = 0; fields = 0; written = strip block list room .written }
   unfolding bytesOf
-  strip-twice =
+  strip-twice room′ h =
       let s = strip-sound block list room z in
       let listed = Listed list in
       let fs = fields block .items in
@@ -96,8 +97,9 @@ module _ (block list : List ℕ) (room : ℕ) (z : strip block list room .number
       let again : keptOf listed (keptOf listed fs) ≡ keptOf listed fs = select-again (λ f. not (isRemoved listed f)) fs in
       let nothing : removedOf listed (keptOf listed fs) ≡ [] = select-none (isRemoved listed) fs in
       let all = ap length (fields-fine block (s .fielded) .bytes) in
-      let r = strip-is out list room (omega (arith, select-sum (isRemoved listed) fs, all, s .small)) (s .listed)
-      (ap (λ (w : Walked Field). w .number) t) (rw (items, again) (s .roomy)) in
+      let roomy : length out ≤ room′ = rw (s .is) at h in
+      let r = strip-is out list room′ (omega (arith, select-sum (isRemoved listed) fs, all, s .small)) (s .listed)
+      (ap (λ (w : Walked Field). w .number) t) (rw (items, again) roomy) in
       rw (s .is) (r ∙ rw (items, again, nothing))
 
 -- ==== a repeated list entry changes nothing
@@ -134,4 +136,4 @@ strip-repeated block list list′ room e xs ys zs a b = go (ltb byteLimit (lengt
     go true q = strip-big block list′ room q ∙ sym (strip-big block list room q)
     go false q =
         strip-list block list′ room q own′ b
-        ∙ (same-sifted (among own′) (among own) (λ i. among-again e i xs ys zs) block room ∙ sym (strip-list block list room q own a))
+        ∙ (same-stripped (among own′) (among own) (λ i. among-again e i xs ys zs) block room ∙ sym (strip-list block list room q own a))

@@ -10,17 +10,14 @@ use lib.Dec.{ltb}
 use lib.ListN.{length, drop}
 use lib.Seq.{drop-append-seam}
 use Rattle.lexis_rules.specs.Limits.{byteLimit}
-use Rattle.block_rules.specs.Fields.{Field, fields, bytesOf}
+use Rattle.block_rules.specs.Fields.{fields, bytesOf}
 use Rattle.block_rules.proofs.Fields.{fields-numbers}
 use Rattle.authserv_rules.specs.OwnList.{ownList}
 use Rattle.authserv_rules.proofs.Entries.{list-five}
-use Rattle.strip_rules.specs.Strip.{keptOf, removedOf, Answer, done, fitted, orRefusal, stripFields, strip}
+use Rattle.strip_rules.specs.Strip.{Answer, done, fitted, orRefusal, stripFields, strip}
 use Rattle.strip_rules.specs.Answers.{leaves}
-use Rattle.strip_rules.proofs.Laws.{Listed, strip-to, strip-is}
-
--- the kept fields
-abbrev pub kept : List ℕ → List ℕ → List Field
-kept block list = keptOf (Listed list) (fields block .items)
+use Rattle.strip_rules.specs.Told.{keptFields, removedFields, Known}
+use Rattle.strip_rules.proofs.Laws.{strip-to, strip-is}
 
 -- a refusal: zero counts, and nothing is written
 abbrev pub refusing : ℕ → ℕ → Answer
@@ -31,22 +28,22 @@ pub data Way (block list : List ℕ) (room : ℕ) : Type 0 where
   bad : length block ≤ byteLimit → ownList list .number ≡ 5 → strip block list room ≡ refusing 5 (ownList list .place) → Way block list room
   cut : length block ≤ byteLimit → ownList list .number ≡ 0 → (n : ℕ) → fields block .number ≡ n → 2 ≤ n → n ≤ 4
       → strip block list room ≡ refusing n (fields block .place) → Way block list room
-  short : length block ≤ byteLimit → ownList list .number ≡ 0 → fields block .number ≡ 0 → room < length (bytesOf (kept block list))
-      → strip block list room ≡ refusing 6 (length (bytesOf (kept block list))) → Way block list room
-  whole : length block ≤ byteLimit → ownList list .number ≡ 0 → fields block .number ≡ 0 → length (bytesOf (kept block list)) ≤ room
-      → strip block list room ≡ done (kept block list) (removedOf (Listed list) (fields block .items)) → Way block list room
+  short : length block ≤ byteLimit → ownList list .number ≡ 0 → fields block .number ≡ 0 → room < length (bytesOf (keptFields block list))
+      → strip block list room ≡ refusing 6 (length (bytesOf (keptFields block list))) → Way block list room
+  whole : length block ≤ byteLimit → ownList list .number ≡ 0 → fields block .number ≡ 0 → length (bytesOf (keptFields block list)) ≤ room
+      → strip block list room ≡ done (keptFields block list) (removedFields block list) → Way block list room
 
 pub way : (block list : List ℕ) (room : ℕ) → Way block list room
 unfolding strip stripFields fitted
 way block list room = big (ltb byteLimit (length block)) refl
   where
     fit : length block ≤ byteLimit → ownList list .number ≡ 0 → fields block .number ≡ 0 → ltb byteLimit (length block) ≡ false
-        → (t : Bool) → ltb room (length (bytesOf (kept block list))) ≡ t → Way block list room
+        → (t : Bool) → ltb room (length (bytesOf (keptFields block list))) ≡ t → Way block list room
     fit a b c l true d = short a b c (ltb-true room _ d) (strip-to block list room l b c ∙ rw (fitted, d))
-    fit a b c l false d = let e = ltb-false room (length (bytesOf (kept block list))) d in whole a b c e (strip-is block list room a b c e)
+    fit a b c l false d = let e = ltb-false room (length (bytesOf (keptFields block list))) d in whole a b c e (strip-is block list room a b c e)
 
     walk : length block ≤ byteLimit → ltb byteLimit (length block) ≡ false → ownList list .number ≡ 0 → (n : ℕ) → fields block .number ≡ n → Way block list room
-    walk a l b zero c = fit a b c l (ltb room (length (bytesOf (kept block list)))) refl
+    walk a l b zero c = fit a b c l (ltb room (length (bytesOf (keptFields block list)))) refl
     walk a l b (suc n) c =
         let k = fields-numbers block n c in
         cut a b (suc n) c (k .0) (k .1) (rw (strip, l, orRefusal, b, stripFields, orRefusal, c))
@@ -60,10 +57,6 @@ way block list room = big (ltb byteLimit (length block)) refl
     big false l = own (ltb-false byteLimit (length block) l) l (ownList list .number) refl
 
 -- ==== when each number is given
-
--- the kept fields are known: the block is within the limit, the list is good and the walk comes to its end
-abbrev pub Known : List ℕ → List ℕ → Type 0
-Known block list = (length block ≤ byteLimit) × ((ownList list .number ≡ 0) × (fields block .number ≡ 0))
 
 -- an answer with one number has no other
 other : {A : Type 0} (a b : Answer) (n : ℕ) → a ≡ b → a .number ≡ n → (b .number ≡ n → ⊥) → A
@@ -132,7 +125,7 @@ module _ (block list : List ℕ) (room : ℕ) where
         | whole l o f s q ↦ absurd (omega arith)
       ]
 
-  pub six-when : strip block list room .number ≡ 6 → Known block list × (room < length (bytesOf (kept block list)))
+  pub six-when : strip block list room .number ≡ 6 → Known block list × (room < length (bytesOf (keptFields block list)))
   six-when e =
       elim (way block list room) [
         | long l q ↦ other _ _ 6 q e (λ z. omega arith)
@@ -142,7 +135,7 @@ module _ (block list : List ℕ) (room : ℕ) where
         | whole l o f s q ↦ other _ _ 6 q e (λ z. omega arith)
       ]
 
-  pub when-six : Known block list → room < length (bytesOf (kept block list)) → strip block list room ≡ refusing 6 (length (bytesOf (kept block list)))
+  pub when-six : Known block list → room < length (bytesOf (keptFields block list)) → strip block list room ≡ refusing 6 (length (bytesOf (keptFields block list)))
   when-six k h =
       elim (way block list room) [
         | long l q ↦ absurd (omega (arith, k .0))
@@ -152,7 +145,7 @@ module _ (block list : List ℕ) (room : ℕ) where
         | whole l o f s q ↦ absurd (omega arith)
       ]
 
-  pub zero-when : strip block list room .number ≡ 0 → Known block list × (length (bytesOf (kept block list)) ≤ room)
+  pub zero-when : strip block list room .number ≡ 0 → Known block list × (length (bytesOf (keptFields block list)) ≤ room)
   zero-when e =
       elim (way block list room) [
         | long l q ↦ other _ _ 0 q e (λ z. omega arith)
@@ -162,8 +155,8 @@ module _ (block list : List ℕ) (room : ℕ) where
         | whole l o f s q ↦ ((l, (o, f)), s)
       ]
 
-  pub when-zero : Known block list → length (bytesOf (kept block list)) ≤ room
-      → strip block list room ≡ done (kept block list) (removedOf (Listed list) (fields block .items))
+  pub when-zero : Known block list → length (bytesOf (keptFields block list)) ≤ room
+      → strip block list room ≡ done (keptFields block list) (removedFields block list)
   when-zero k h =
       elim (way block list room) [
         | long l q ↦ absurd (omega (arith, k .0))
@@ -204,5 +197,5 @@ past block list old =
       | bad l o q ↦ rw q
       | cut l o n f i j q ↦ rw q
       | short l o f s q ↦ rw q
-      | whole l o f s q ↦ rw q (drop-append-seam (bytesOf (kept block list)) (drop (length (bytesOf (kept block list))) old))
+      | whole l o f s q ↦ rw q (drop-append-seam (bytesOf (keptFields block list)) (drop (length (bytesOf (keptFields block list))) old))
     ]

@@ -1,7 +1,8 @@
 // Texts: compared without case, written in lower case, and those of quoted strings.
 //
 // A writer is handed a buffer and a place in it, any place. It stores as much of the text as there is room for from there on, changes
-// no other byte, and returns the length of the whole text. Run on an empty buffer it only measures.
+// no other byte, and returns the length of the whole text; `put_byte` and `put_part` return the place after it. Run on an empty buffer it
+// only measures.
 use lexis_rules::Class;
 ghost use mathlib.Core.Path.{_≡_};
 ghost use mathlib.Core.List.{[], _∷_, map};

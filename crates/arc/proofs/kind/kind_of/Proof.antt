@@ -1,6 +1,6 @@
 -- `arc::kind::kind_of` meets its contract: the names are tried in turn. Assumes nothing.
 use borrow.Author.Needs.{needs}
-use Rattle.arc.proofs.Instances.{kind-results, kind-signature, kind-seal, kind-other}
+use Rattle.instances.proofs.Instances.{kind-results, kind-signature, kind-seal, kind-other}
 use Rattle.arc.proofs.kind.kind_of.Statement.{statement}
 use Rattle.arc.proofs.kind.kind_of.Tie as tie
 

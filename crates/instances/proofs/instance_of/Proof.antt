@@ -1,8 +1,8 @@
--- `arc::instance::instance_of` meets its contract: each way through the code is a case of the parser. Assumes nothing.
+-- `instances::instance_of` meets its contract: each way through the code is a case of the parser. Assumes nothing.
 use borrow.Author.Needs.{needs}
-use Rattle.arc.proofs.Instances.{instance-no-name, instance-no-equals, instance-from}
-use Rattle.arc.proofs.instance.instance_of.Statement.{statement}
-use Rattle.arc.proofs.instance.instance_of.Tie as tie
+use Rattle.instances.proofs.Instances.{instance-no-name, instance-no-equals, instance-from}
+use Rattle.instances.proofs.instance_of.Statement.{statement}
+use Rattle.instances.proofs.instance_of.Tie as tie
 
 mark-end-requires : tie.Need-mark-end-requires
 mark-end-requires c κs = search needs

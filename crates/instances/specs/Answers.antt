@@ -1,9 +1,9 @@
 -- What the code's answers say. Assumes nothing: these are definitions.
 use Prim.Native.Nat.{ℕ}
 use Rattle.reading.specs.Parsers.{Got, nothing, got}
-use Rattle.arc.specs.declared.instance.Instance.{Instance}
-use Rattle.arc.specs.declared.instance.Start.{Start}
-use Rattle.arc.specs.declared.instance.Start.the-variants.{Read, Missing}
+use Rattle.instances.specs.declared.Instance.{Instance}
+use Rattle.instances.specs.declared.Start.{Start}
+use Rattle.instances.specs.declared.Start.the-variants.{Read, Missing}
 
 -- before any instance is known
 abbrev pub noInstance : Instance

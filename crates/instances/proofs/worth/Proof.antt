@@ -1,8 +1,8 @@
--- `arc::instance::worth` meets its contract: one or two digits, by the length of the text. Assumes nothing.
+-- `instances::worth` meets its contract: one or two digits, by the length of the text. Assumes nothing.
 use borrow.Author.Needs.{needs}
-use Rattle.arc.proofs.Instances.{digit-alone, digit-first, digit-second, tens-fit, sum-fits, worth-one, worth-two, worth-none}
-use Rattle.arc.proofs.instance.worth.Statement.{statement}
-use Rattle.arc.proofs.instance.worth.Tie as tie
+use Rattle.instances.proofs.Instances.{digit-alone, digit-first, digit-second, tens-fit, sum-fits, worth-one, worth-two, worth-none}
+use Rattle.instances.proofs.worth.Statement.{statement}
+use Rattle.instances.proofs.worth.Tie as tie
 
 shared-slice-read-digit : tie.Need-shared-slice-read-digit
 shared-slice-read-digit c = search needs

@@ -1,8 +1,8 @@
--- `arc::instance::mark_end` meets its contract: space and the byte behind it. Assumes nothing.
+-- `instances::mark_end` meets its contract: space and the byte behind it. Assumes nothing.
 use borrow.Author.Needs.{needs}
-use Rattle.arc.proofs.Instances.{mark-there, mark-other, mark-past}
-use Rattle.arc.proofs.instance.mark_end.Statement.{statement}
-use Rattle.arc.proofs.instance.mark_end.Tie as tie
+use Rattle.instances.proofs.Instances.{mark-there, mark-other, mark-past}
+use Rattle.instances.proofs.mark_end.Statement.{statement}
+use Rattle.instances.proofs.mark_end.Tie as tie
 
 space-end-requires : tie.Need-space-end-requires
 space-end-requires c κs = search needs

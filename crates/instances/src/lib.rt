@@ -1,4 +1,4 @@
-// The instance at the front of the body of an ARC field.
+// The instance at the front of the body of an ARC field (RFC 8617, 4.2.1).
 use lexis_rules::Class;
 ghost use mathlib.Core.Path.{_≡_};
 ghost use mathlib.Core.Bool.{true};
@@ -9,8 +9,8 @@ ghost use Rattle.reading.specs.Readers.{run};
 ghost use Rattle.reading.specs.Places.{from};
 ghost use Rattle.lexis_rules.specs.Bytes.{inClass};
 ghost use Rattle.arc_rules.specs.Sets.{firstInstance, lastInstance, instance};
-ghost use Rattle.arc.specs.Answers.{noInstance, startGot};
-ghost use Rattle.arc.specs.Internal.{marked, worth, numbered};
+ghost use Rattle.instances.specs.Answers.{noInstance, startGot};
+ghost use Rattle.instances.specs.Internal.{marked, worth, numbered};
 
 // The number of an instance; 0 before any is known.
 pub struct Instance {

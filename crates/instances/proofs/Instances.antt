@@ -28,7 +28,7 @@ use Rattle.lexis_rules.proofs.Numbers.{decimal-more}
 use Rattle.arc_rules.specs.declared.Kind.the-variants.{Results, Signature, Seal, Other}
 use Rattle.arc_rules.specs.Sets.{kindNamed, isInstance, instance}
 use Rattle.tags.specs.Tags.{span}
-use Rattle.arc.specs.Internal.{marked, worth, numbered}
+use Rattle.instances.specs.Internal.{marked, worth, numbered}
 
 -- ==== kinds
 

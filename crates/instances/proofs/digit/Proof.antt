@@ -1,8 +1,8 @@
--- `arc::instance::digit` meets its contract: a digit is 48 at least. Assumes nothing.
+-- `instances::digit` meets its contract: a digit is 48 at least. Assumes nothing.
 use borrow.Author.Needs.{needs}
-use Rattle.arc.proofs.Instances.{digit-low}
-use Rattle.arc.proofs.instance.digit.Statement.{statement}
-use Rattle.arc.proofs.instance.digit.Tie as tie
+use Rattle.instances.proofs.Instances.{digit-low}
+use Rattle.instances.proofs.digit.Statement.{statement}
+use Rattle.instances.proofs.digit.Tie as tie
 
 sub-wide : tie.Need-sub-wide
 sub-wide c = search digit-low

@@ -1,8 +1,8 @@
--- `arc::instance::number_at` meets its contract: each way through the code is a case of the parser. Assumes nothing.
+-- `instances::number_at` meets its contract: each way through the code is a case of the parser. Assumes nothing.
 use borrow.Author.Needs.{needs}
-use Rattle.arc.proofs.Instances.{digits-inside, digits-all, number-missing, number-none, number-open, number-read}
-use Rattle.arc.proofs.instance.number_at.Statement.{statement}
-use Rattle.arc.proofs.instance.number_at.Tie as tie
+use Rattle.instances.proofs.Instances.{digits-inside, digits-all, number-missing, number-none, number-open, number-read}
+use Rattle.instances.proofs.number_at.Statement.{statement}
+use Rattle.instances.proofs.number_at.Tie as tie
 
 run-end-requires : tie.Need-run-end-requires
 run-end-requires c κs = search needs

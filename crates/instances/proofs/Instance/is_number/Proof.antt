@@ -1,0 +1,13 @@
+-- `instances::Instance::is_number` meets its contract: each test is one of the definition. Assumes nothing.
+use Rattle.instances.proofs.Instances.{number-low, number-high}
+use Rattle.instances.proofs.Instance.is_number.Statement.{statement}
+use Rattle.instances.proofs.Instance.is_number.Tie as tie
+
+returns : tie.Need-returns
+returns c = search number-low
+
+returns-2 : tie.Need-returns-2
+returns-2 c = search number-high
+
+pub is-number-spec : {M : Type 1} → statement M
+is-number-spec = tie.close (tie.spec returns returns-2)
