@@ -229,6 +229,8 @@ typedef struct {
  * 1: 2 if its ARC-Seal is good, plus 1 if its ARC-Message-Signature is good. A chain that is
  * built has as many instances as the block has ARC-Seal fields.
  *
+ * It needs up to 72 KB of stack.
+ *
  * The first of these that applies is the number: 1 the block is too long; 2, 3 or 4 a bad
  * block; 10 bad verdicts, of another count or with a byte over 3; 0 done.
  */
