@@ -88,7 +88,7 @@ fn readable(s: &[u8], a: usize, e: usize, quoted: bool) -> Identifier
 pub fn identify(body: &[u8]) -> Identifier
     ensures { λ r. ⌜ r ≡ identifierAt (now (body .entry)) ⌝ }
 {
-    let a = lexis::space_end(body, 0);
+    let a = lexis::wide_space_end(body, 0);
     if reading::is_at(body, a, 0, b'"') {
         return readable(body, a, lexis::quoted_end(body, a), true);
     }

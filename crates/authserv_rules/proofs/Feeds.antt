@@ -1,24 +1,51 @@
--- The lines of texts that were each ended by LF are these texts. Assumes nothing.
-use Prim.Native.Nat.{ℕ}
+-- The lines of any bytes, one after the other; and the lines of texts that were each ended by LF are these texts. Assumes nothing.
+use Prim.Native.Nat.{ℕ, suc, _<_, zero-le, suc-le-suc}
+use native.Mathlib.Omega.{arith}
 use mathlib.Core.Path.{_≡_, refl, sym, ap, _∙_}
 use mathlib.Core.Bool.{Bool, true, false}
 use mathlib.Core.List.{List, [], _∷_, _++_}
 use lib.Dec.{eqb}
+use lib.ListN.{length, take, drop}
 use borrow.Author.Tests.{eq-eqb, ne-eqb}
 use Rattle.sequences.proofs.Booleans.{no-true}
 use Rattle.reading.specs.Texts.{oneOf}
+use Rattle.reading.specs.Readers.{run}
 use Rattle.punycode_rules.specs.Labels.{onFirst}
 use Rattle.authserv_rules.specs.Spelled.{lined, linesOf}
+use Rattle.authserv_rules.specs.Ends.{feedless, untilFeed}
 
 -- ==== one line after the other
 
-pub line-ended : (x : ℕ) (xs : List ℕ) → eqb x 10 ≡ true → linesOf (x ∷ xs) ≡ [] ∷ linesOf xs
+line-ended : (x : ℕ) (xs : List ℕ) → eqb x 10 ≡ true → linesOf (x ∷ xs) ≡ [] ∷ linesOf xs
 unfolding linesOf
 line-ended x xs e = rw (linesOf, e)
 
-pub line-goes-on : (x : ℕ) (xs : List ℕ) → eqb x 10 ≡ false → linesOf (x ∷ xs) ≡ onFirst x (linesOf xs)
+line-goes-on : (x : ℕ) (xs : List ℕ) → eqb x 10 ≡ false → linesOf (x ∷ xs) ≡ onFirst x (linesOf xs)
 unfolding linesOf
 line-goes-on x xs e = rw (linesOf, e)
+
+feed-here : (x : ℕ) (xs : List ℕ) → eqb x 10 ≡ true → untilFeed (x ∷ xs) ≡ 0
+unfolding run feedless
+feed-here x xs e = rw (run, feedless, e)
+
+feed-later : (x : ℕ) (xs : List ℕ) → eqb x 10 ≡ false → untilFeed (x ∷ xs) ≡ suc (untilFeed xs)
+unfolding run feedless
+feed-later x xs e = rw (run, feedless, e)
+
+pub lines-first : (xs : List ℕ) → 0 < length xs → linesOf xs ≡ take (untilFeed xs) xs ∷ linesOf (drop (suc (untilFeed xs)) xs)
+unfolding linesOf run
+lines-first [] h = absurd (let z : 0 < 0 = h in omega arith)
+lines-first (x ∷ xs) h = go (eqb x 10) refl (lines-first xs)
+  where
+    later : (xs : List ℕ) → eqb x 10 ≡ false → (0 < length xs → linesOf xs ≡ take (untilFeed xs) xs ∷ linesOf (drop (suc (untilFeed xs)) xs))
+        → linesOf (x ∷ xs) ≡ take (untilFeed (x ∷ xs)) (x ∷ xs) ∷ linesOf (drop (suc (untilFeed (x ∷ xs))) (x ∷ xs))
+    later [] e ih = line-goes-on x [] e ∙ rw (feed-later x [] e)
+    later (y ∷ ys) e ih = line-goes-on x (y ∷ ys) e ∙ (ap (onFirst x) (ih (suc-le-suc zero-le)) ∙ rw (feed-later x (y ∷ ys) e))
+
+    go : (t : Bool) → eqb x 10 ≡ t → (0 < length xs → linesOf xs ≡ take (untilFeed xs) xs ∷ linesOf (drop (suc (untilFeed xs)) xs))
+        → linesOf (x ∷ xs) ≡ take (untilFeed (x ∷ xs)) (x ∷ xs) ∷ linesOf (drop (suc (untilFeed (x ∷ xs))) (x ∷ xs))
+    go true e ih = line-ended x xs e ∙ rw (feed-here x xs e)
+    go false e ih = later xs e ih
 
 -- ==== texts that were each ended by LF
 

@@ -3,6 +3,7 @@ pub mod ListExamples
 pub mod EntryBytes
 pub mod Feeds
 pub mod OwnLists
+pub mod Ends
 pub mod Examples
 pub mod Utf8Examples
 pub mod SpelledExamples

@@ -6,7 +6,7 @@ use mathlib.Core.Path.{_≡_, refl, sym, ap, _∙_}
 use mathlib.Core.Bool.{Bool, true, false, _&&_, _||_}
 use mathlib.Core.List.{List, [], _∷_, _++_, map}
 use lib.Dec.{eqb, leb}
-use lib.ListN.{length, drop, take, length-take, length-append, take-append-drop}
+use lib.ListN.{length, drop, take, length-take, length-append, length-map, take-append-drop}
 use lib.Seq.{drop-cons}
 use borrow.Author.Tests.{eqb-true, ne-eqb, leb-false}
 use Rattle.sequences.proofs.Booleans.{no-true, true-not}
@@ -94,6 +94,10 @@ feedless-spellings : {es : List (List ℕ)} → Each Good es → Feedless (map s
 feedless-spellings nil = none
 feedless-spellings (cons {e} {es} g w) = more (spelling-lacks 10 (omega arith) e (g .feedless)) (feedless-spellings w)
 
+feedless-entries : {es : List (List ℕ)} → Each Good es → Feedless es
+feedless-entries nil = none
+feedless-entries (cons g w) = more (g .feedless) (feedless-entries w)
+
 pub list-lines : (list : List ℕ) → linesOf (spelledList (ownList list .items)) ≡ map spelling (ownList list .items)
 list-lines list = lines-lined (feedless-spellings (good-entries list))
 
@@ -166,6 +170,21 @@ walk-few at count zero (x ∷ xs) h = go (λ k. walk-few (suc at) (suc count) k 
     go ih (suc n) true e l = rw (walk, entryAt, e, l) (omega arith)
     go ih (suc n) false e l = rw (walk, entryAt, e, l) (omega (arith, ih (suc n - 1) (leb-false entryLimit count l)))
 
+pub list-few : (list : List ℕ) → length (ownList list .items) ≤ entryLimit
+list-few list = omega (arith, walk-few 0 0 0 list (omega arith))
+
+-- it has as many lines as entries, also where it is taken as it stands
+pub spelled-length : (list : List ℕ) → length (linesOf (spelledList (ownList list .items))) ≡ length (ownList list .items)
+spelled-length list = ap length (list-lines list) ∙ length-map (ownList list .items) spelling
+
+pub spelled-few : (list : List ℕ) → length (linesOf (spelledList (ownList list .items))) ≤ entryLimit
+spelled-few list = omega (arith, spelled-length list, list-few list)
+
+pub good-few : (list : List ℕ) → ownList list .number ≡ 0 → length (linesOf list) ≤ entryLimit
+good-few list z =
+    let l : linesOf list ≡ ownList list .items = ap linesOf (walk-lined 0 0 0 list z) ∙ lines-lined (feedless-entries (good-entries list)) in
+    rw l (list-few list)
+
 lined-length : {es : List (List ℕ)} → Each Good es → length (spelledList es) ≤ 1021 * length es
 unfolding lined
 lined-length nil = omega arith
@@ -173,4 +192,4 @@ lined-length (cons {e} {es} g w) = rw length-append (omega (arith, spelling-limi
 
 -- 64 entries of 1,020 bytes, each with its LF
 pub list-length : (list : List ℕ) → length (spelledList (ownList list .items)) ≤ 65344
-list-length list = omega (arith, lined-length (good-entries list), walk-few 0 0 0 list (omega arith))
+list-length list = omega (arith, lined-length (good-entries list), list-few list)

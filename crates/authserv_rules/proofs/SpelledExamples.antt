@@ -9,6 +9,7 @@ use Rattle.reading.proofs.Cases.{case, Says, copies}
 use Rattle.authserv_rules.specs.declared.Own.the-variants.{Ours, Others, Unreadable}
 use Rattle.authserv_rules.specs.Listed.{among, ownOf}
 use Rattle.authserv_rules.specs.Spelled.{lined, spelledList, linesOf, amongLines, amongSpelled, ownOfSpelled}
+use Rattle.authserv_rules.specs.Ends.{endsFrom, endsOf, cutAt}
 use Rattle.authserv_rules.proofs.Examples.{opened}
 
 abbrev umlaut : List ℕ
@@ -59,6 +60,24 @@ linesOfs :
     ∷ [])
 unfolding opened
 linesOfs = refl
+
+-- where they end: at their LF, or at the end of the bytes
+ends :
+    Says endsOf
+    (case [] []
+    ∷ case (bytes "a\nbc\n") (1 ∷ 4 ∷ [])
+    ∷ case (bytes "a\nbc") (1 ∷ 4 ∷ [])
+    ∷ case (bytes "\n\na") (0 ∷ 1 ∷ 3 ∷ [])
+    ∷ [])
+unfolding opened endsFrom
+ends = refl
+
+-- bytes cut at such places, and at any places
+cuts :
+    Says (cutAt (bytes "ab\ncd") 0)
+    (case (2 ∷ 5 ∷ []) (bytes "ab" ∷ bytes "cd" ∷ []) ∷ case (1 ∷ 1 ∷ 9 ∷ 12 ∷ []) (bytes "a" ∷ [] ∷ bytes "\ncd" ∷ [] ∷ []) ∷ case [] [] ∷ [])
+unfolding opened cutAt
+cuts = refl
 
 -- a text equals a line but for ASCII case; a line is not decoded
 amongLineses :

@@ -4,3 +4,4 @@ pub mod Identifier
 pub mod Version
 pub mod Listed
 pub mod Spelled
+pub mod Ends

@@ -1,3 +1,4 @@
 pub mod Lines
+pub mod Wide
 pub mod Steps
 pub mod Headlines

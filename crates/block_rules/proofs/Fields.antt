@@ -8,7 +8,7 @@ use mathlib.Core.Bool.{Bool, true, false, not}
 use mathlib.Core.List.{List, [], _∷_, _++_}
 use lib.ListN.{length, getD, drop, take, length-append, take-append-drop, List·getD-append}
 use lib.Seq.{drop-append-seam}
-use Rattle.reading.specs.Walks.{Met, item, refused, walk}
+use Rattle.reading.specs.Walks.{Met, item, refused, Walked, walk}
 use Rattle.reading.proofs.Walks.{walk-item, walk-end}
 use Rattle.lexis_rules.specs.declared.Class.the-variants.{Blank}
 use Rattle.lexis_rules.specs.Bytes.{inClass}
@@ -108,6 +108,13 @@ walk-back at count (more {f} {fs} s a) h =
     let l : 0 < length (f .bytes ++ bytesOf fs) = rw length-append (omega (arith, s .some)) in
     walk-item fieldAt at count (f .bytes ++ bytesOf fs) f (length (f .bytes)) l (s .some) (s .steady at count (bytesOf fs) (omega arith) (first-sound a))
     ∙ rw (drop-append-seam (f .bytes) (bytesOf fs), walk-back (at + length (f .bytes)) (suc count) a (omega arith))
+
+-- so where nothing is refused the place is 0
+pub fields-place : (block : List ℕ) → fields block .number ≡ 0 → fields block .place ≡ 0
+fields-place block z =
+    let w = fields-fine block z in
+    let b : fields block ≡ record { items = fields block .items; number = 0; place = 0 } = rw (w .bytes) at (walk-back 0 0 (w .sound) (w .few)) in
+    ap (λ (v : Walked Field). v .place) b
 
 -- ==== those of the fields that pass a test
 

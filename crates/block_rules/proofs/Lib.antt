@@ -1,4 +1,5 @@
 pub mod Lines
+pub mod Extents
 pub mod Field
 pub mod Fields
 pub mod Examples

@@ -16,3 +16,4 @@ pub mod Sizes
 pub mod Headlines
 pub mod Ways
 pub mod Rooms
+pub mod Counts

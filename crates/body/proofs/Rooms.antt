@@ -12,7 +12,7 @@ use Rattle.body.specs.Told.{textOf}
 use Rattle.body.proofs.Ways.{six-when, when-told}
 
 -- what a body within the limit has to write has at most three bytes for each of its bytes, and four more
-text-size : (body : List ℕ) → length body ≤ byteLimit → length (textOf (reading body)) ≤ 3 * length body + 4
+pub text-size : (body : List ℕ) → length body ≤ byteLimit → length (textOf (reading body)) ≤ 3 * length body + 4
 text-size body l =
     let t = length (textOf (reading body)) in
     let e = ap (λ (a : Answer). length (a .written)) (when-told body t l (omega arith)) in

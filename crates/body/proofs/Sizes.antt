@@ -211,7 +211,7 @@ resinfos-sized =
     bind-sized lines-sized
     (λ rs. bind-sized skip-sized (λ u. bind-sized (within-sized 0 end-within) (λ u. give-sized rs (omega arith))))
 
-resinfos-within : Within 0 resinfos
+pub resinfos-within : Within 0 resinfos
 unfolding resinfos
 resinfos-within =
     bind-within 0 (several resinfo 0) _ (several-within 1 resinfo resinfo-within)

@@ -1,4 +1,3 @@
-pub mod Bytes
 pub mod Items
 pub mod Loops
 pub mod Keywords

@@ -6,13 +6,14 @@ use lexis_rules::Class;
 use lexis_rules::Digits;
 use lexis_rules::Value;
 ghost use mathlib.Core.Path.{_≡_};
-ghost use mathlib.Core.Bool.{_&&_};
-ghost use Prim.Native.Nat.{_+_, _-_};
+ghost use mathlib.Core.Bool.{false, true, _&&_};
+ghost use Prim.Native.Nat.{_+_, _-_, _≤_};
 ghost use lib.Dec.{eqb, ltb};
 ghost use lib.ListN.{drop, getD, length};
 ghost use Rattle.reading.specs.Readers.{run, many};
+ghost use Rattle.reading.specs.Places.{Reaches};
 ghost use Rattle.lexis_rules.specs.Limits.{byteLimit, depthLimit};
-ghost use Rattle.lexis.specs.Internal.{freshAt, rowsOf, wordOf};
+ghost use Rattle.lexis.specs.Internal.{freshAt};
 ghost use Rattle.lexis_rules.specs.Bytes.{inClass};
 ghost use Rattle.lexis_rules.specs.Pieces.{escapes, pair, fold, item, comment, content, space, bareSpace, token, quoted, keyword, digits, leading};
 ghost use Rattle.lexis_rules.specs.Answers.{valueAt, digitsAt};
@@ -47,65 +48,11 @@ pub fn too_long(s: &[u8]) -> bool
     Cursor::BYTES < s.len()
 }
 
-// A class: a binary digit for each byte, the lowest first, 64 bytes to a word.
-struct Rows(u64, u64, u64, u64);
-
-fn rows_of(c: Class) -> Rows
-    ensures { λ r. ⌜ r ≡ rowsOf c ⌝ }
-{
-    match c {
-        Class::Blank => Rows(0x100000200, 0x0, 0x0, 0x0),
-        Class::Opening => Rows(0x10100002200, 0x0, 0x0, 0x0),
-        Class::Zero => Rows(0x1000000000000, 0x0, 0x0, 0x0),
-        Class::Digit => Rows(0x3ff000000000000, 0x0, 0x0, 0x0),
-        Class::Keyword => Rows(0x3ff200000000000, 0x7fffffe07fffffe, 0x0, 0x0),
-        Class::Token => Rows(0x3ff6cfa00000000, 0x7fffffffc7fffffe, 0x0, 0x0),
-        Class::Quoted => Rows(
-            0xfffffffb00000200,
-            0x7fffffffefffffff,
-            0xffffffffffffffff,
-            0xffffffffffffffff,
-        ),
-        Class::Comment => Rows(
-            0xfffffcff00000200,
-            0x7fffffffefffffff,
-            0xffffffffffffffff,
-            0xffffffffffffffff,
-        ),
-        Class::Escaped => Rows(0xffffffff00000200, 0x7fffffffffffffff, 0x0, 0x0),
-        Class::Name => Rows(0xfbfffffe00000000, 0x7fffffffffffffff, 0x0, 0x0),
-        Class::Visible => Rows(0xfffffffe00000000, 0x7fffffffffffffff, 0x0, 0x0),
-        Class::Delimiter => Rows(0x800010100002200, 0x0, 0x0, 0x0),
-        Class::Tag => Rows(
-            0xf7ffffff00000200,
-            0x7fffffffffffffff,
-            0xffffffffffffffff,
-            0xffffffffffffffff,
-        ),
-    }
-}
-
-// The word that has the byte.
-fn word(r: Rows, b: u8) -> u64
-    ensures { λ w. ⌜ w ≡ wordOf r b ⌝ }
-{
-    if b < 64 {
-        return r.0;
-    }
-    if b < 128 {
-        return r.1;
-    }
-    if b < 192 {
-        return r.2;
-    }
-    r.3
-}
-
 // Whether a byte is of a class.
 pub fn in_class(c: Class, b: u8) -> bool
     ensures { λ r. ⌜ r ≡ inClass c b ⌝ }
 {
-    (word(rows_of(c), b) >> (b % 64)) % 2 == 1
+    classes::in_class(c, b)
 }
 
 fn class_at(s: &[u8], at: usize, k: usize, c: Class) -> bool
@@ -238,6 +185,54 @@ fn comment_from(s: &[u8], c: Cursor) -> usize
     at
 }
 
+// Whether a byte may end a run of plain bytes of a comment. All tests are made, so that many bytes can be tested at once.
+fn is_stop(b: u8) -> bool
+    ensures { λ r. ⌜ (r ≡ false → inClass Class.Comment b ≡ true) ⌝ }
+{
+    (b < 32) | (b == b'(') | (b == b')') | (b == b'\\') | (b > 126)
+}
+
+// Whether one of n bytes may. There is no way out of the loop, so that with n a number in the call it is compiled to a few wide compares.
+fn has_stop(s: &[u8], at: usize, n: usize) -> bool
+    requires { ⌜ at + n ≤ length (now s) ⌝ }
+    ensures { λ r. ⌜ (r ≡ false → Reaches (run (inClass Class.Comment)) (now (s .entry)) at (at + n)) ⌝ }
+{
+    let mut hit = false;
+    let mut j: usize = 0;
+    while j < n {
+        hit = hit | is_stop(s[at + j]);
+        j += 1;
+    }
+    hit
+}
+
+// The end of a run of plain bytes of a comment: sixteen bytes at a time.
+fn plain_from(s: &[u8], at: usize) -> usize
+    ensures { λ r. ⌜ r ≡ at + run (inClass Class.Comment) (drop at (now (s .entry))) ⌝ }
+{
+    let mut i = at;
+    loop {
+        let r = reading::rest(s.len(), i);
+        if r < 16 {
+            return run_end(s, i, Class::Comment);
+        }
+        if has_stop(s, i, 16) {
+            return run_end(s, i, Class::Comment);
+        }
+        i += 16;
+    }
+}
+
+// The same, where there often is none: the first byte tells. Comments one inside the other and pairs pay for no wide test.
+fn plain_end(s: &[u8], at: usize) -> usize
+    ensures { λ r. ⌜ r ≡ at + run (inClass Class.Comment) (drop at (now (s .entry))) ⌝ }
+{
+    if class_at(s, at, 0, Class::Comment) {
+        return plain_from(s, at);
+    }
+    at
+}
+
 // What a comment holds, at a cursor behind its "(". The bytes of one comment are a loop: each turn passes a run of plain bytes, and then
 // a comment inside or another item.
 fn content_from(s: &[u8], c: Cursor) -> usize
@@ -246,7 +241,7 @@ fn content_from(s: &[u8], c: Cursor) -> usize
     let depth = c.depth;
     let mut i = c.at;
     loop {
-        let e = run_end(s, i, Class::Comment);
+        let e = plain_end(s, i);
         if reading::is_at(s, e, 0, b'(') {
             let f = comment_from(s, Cursor { at: e, depth });
             if f == e {
@@ -270,6 +265,31 @@ pub fn comment_end(s: &[u8], at: usize) -> usize
     comment_from(s, Cursor::fresh(at))
 }
 
+// Whether a byte is a space or a tab.
+fn is_blank(b: u8) -> bool
+    ensures { λ r. ⌜ r ≡ inClass Class.Blank b ⌝ }
+{
+    if b == b' ' {
+        return true;
+    }
+    b == b'\t'
+}
+
+// The end of a run of spaces and tabs.
+fn blanks_end(s: &[u8], at: usize) -> usize
+    ensures { λ r. ⌜ r ≡ at + run (inClass Class.Blank) (drop at (now (s .entry))) ⌝ }
+{
+    let mut i = at;
+    while i < s.len() {
+        if is_blank(s[i]) {
+            i += 1;
+        } else {
+            return i;
+        }
+    }
+    i
+}
+
 // The end of a space that starts with a byte with which one can start: each turn passes a run of spaces and tabs, and then a comment or
 // a fold.
 fn space_from(s: &[u8], at: usize) -> usize
@@ -277,7 +297,7 @@ fn space_from(s: &[u8], at: usize) -> usize
 {
     let mut i = at;
     loop {
-        let e = run_end(s, i, Class::Blank);
+        let e = blanks_end(s, i);
         if reading::is_at(s, e, 0, b'(') {
             let f = comment_end(s, e);
             if f == e {
@@ -294,12 +314,29 @@ fn space_from(s: &[u8], at: usize) -> usize
     }
 }
 
-// The end of space. Most often there is none: the first byte tells.
+// Whether a space can start with the byte at a place.
+fn opens_at(s: &[u8], at: usize) -> bool
+    ensures { λ r. ⌜ r ≡ inClass Class.Opening (getD (drop at (now (s .entry))) 0 0) ⌝ }
+{
+    class_at(s, at, 0, Class::Opening)
+}
+
+// The end of space, where there often is some.
+pub fn wide_space_end(s: &[u8], at: usize) -> usize
+    ensures { λ r. ⌜ r ≡ at + space (drop at (now (s .entry))) ⌝ }
+{
+    if opens_at(s, at) {
+        return space_from(s, at);
+    }
+    at
+}
+
+// The end of space. Most often there is none: the first byte tells. This test is small enough to be compiled into each caller.
 pub fn space_end(s: &[u8], at: usize) -> usize
     ensures { λ r. ⌜ r ≡ at + space (drop at (now (s .entry))) ⌝ }
 {
-    if class_at(s, at, 0, Class::Opening) {
-        return space_from(s, at);
+    if opens_at(s, at) {
+        return wide_space_end(s, at);
     }
     at
 }

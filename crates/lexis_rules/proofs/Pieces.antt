@@ -4,15 +4,16 @@ use Prim.Native.Nat.{ℕ, zero, suc, _+_, _-_, _≤_, _<_, zero-le}
 use native.Mathlib.Omega.{arith}
 use mathlib.Core.Path.{_≡_, refl, sym, ap, _∙_}
 use mathlib.Core.Bool.{Bool, true, false, _&&_}
-use mathlib.Core.List.{List, [], _∷_}
+use mathlib.Core.List.{List, [], _∷_, _++_}
 use lib.Dec.{eqb}
-use lib.ListN.{length, getD, drop}
+use lib.ListN.{length, getD, take, drop}
+use lib.Seq.{drop-drop}
 use Rattle.sequences.proofs.Booleans.{and-right, cond-le}
-use Rattle.reading.specs.Readers.{Reader, run, many, choose, between}
+use Rattle.reading.specs.Readers.{Reader, run, many, choose, between, lasts}
 use Rattle.reading.specs.Locality.{Fits}
-use Rattle.reading.proofs.Readers.{there, run-fits, many-fits, choose-fits, between-fits, passing-fits}
+use Rattle.reading.proofs.Readers.{there, run-fits, many-fits, lasts-run, choose-fits, between-fits, passing-fits}
 use Rattle.lexis_rules.specs.declared.Class.{Class}
-use Rattle.lexis_rules.specs.declared.Class.the-variants.{Blank, Comment, Escaped}
+use Rattle.lexis_rules.specs.declared.Class.the-variants.{Blank, Quoted, Comment, Escaped}
 use Rattle.lexis_rules.specs.Bytes.{inClass}
 use Rattle.lexis_rules.specs.Pieces.{pair, fold, escapes, item, comment, content, space, bareSpace, token, quoted, value, keyword, digits}
 use Rattle.lexis_rules.proofs.Bytes.{class-zero}
@@ -62,3 +63,16 @@ pub comment-is : (d : ℕ) (xs : List ℕ) → (d ≡ 0 → ⊥) → comment d x
 unfolding comment
 comment-is zero xs ne = absurd (ne refl)
 comment-is (suc d) xs ne = let e : suc d - 1 ≡ d = omega arith in rw e
+
+-- ==== the text of a quoted string
+
+pub item-one : (c : Class) (x : ℕ) (xs : List ℕ) → inClass c x ≡ true → item c (x ∷ xs) ≡ 1
+unfolding item
+item-one c x xs h = rw h
+
+-- bytes of the class stand for themselves, as much of a run as is passed at once
+pub quotedText-run : (s : List ℕ) (i e : ℕ) → i ≤ e → e ≤ i + run (inClass Quoted) (drop i s)
+    → lasts (item Quoted) 0 (drop i s) ≡ take (e - i) (drop i s) ++ lasts (item Quoted) 0 (drop e s)
+quotedText-run s i e l h =
+    let z : i + (e - i) ≡ e = omega arith in
+    lasts-run (item Quoted) (inClass Quoted) (item-one Quoted) (e - i) (drop i s) (omega arith) ∙ rw (drop-drop, z)

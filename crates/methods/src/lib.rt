@@ -2,7 +2,7 @@
 // 2.7.4; dmarc is RFC 7489's and arc RFC 8617's), and the four ptypes (RFC 8601, 2.3).
 //
 // A text that is asked for is bytes of the input as they stand there, of any length. It is compared with the names of a table without case.
-use texts::same_text;
+use texts::same_word;
 ghost use mathlib.Core.Path.{_≡_};
 ghost use mathlib.Core.Bool.{true};
 ghost use mathlib.Core.List.{map};
@@ -68,7 +68,7 @@ fn number_of(rows: &[[u8; 9]], lengths: &[usize], text: &[u8]) -> usize
             i += 1;
         } else {
             let row = rows[i];
-            if same_text(&row[..lengths[i]], text) {
+            if same_word(&row[..lengths[i]], text) {
                 return i;
             }
             i += 1;

@@ -14,10 +14,10 @@ use Rattle.punycode.specs.Answers.{spellAnswer, spellStored}
 use Rattle.punycode.proofs.Headlines.{spell-long, spell-length, spell-front, spell-room}
 use Rattle.punycode_rules.proofs.Lengths.{spelling-least}
 use Rattle.punycode_rules.proofs.Headlines.{spelling-single-hyphens, spelling-limit}
-use Rattle.ownlist.specs.declared.entries.Listed.the-variants.{Entry, End, Bad}
+use Rattle.listing.specs.declared.Listed.the-variants.{Entry, End, Bad}
 use Rattle.authserv_rules.specs.OwnList.{longest, ownList}
-use Rattle.ownlist.specs.Steps.{listedFrom}
-use Rattle.ownlist.proofs.EntrySteps.{RestEntries, Taken, entries-end, entries-bad, entries-next, taken-length}
+use Rattle.listing.specs.Steps.{listedFrom}
+use Rattle.listing.proofs.EntrySteps.{RestEntries, Taken, entries-end, entries-bad, entries-next, taken-length}
 use Rattle.authserv_rules.specs.Spelled.{lined, spelledList, amongLines, amongSpelled}
 
 -- ==== a spelling that was written

@@ -1,17 +1,18 @@
 // Whether the identifier of a body is on our own list.
 //
 // Identifiers are compared as they are spelled, with U-labels for A-labels (02, ticket [2]). Whoever asks for more than one body spells the
-// list once (`spell_list`) and asks the outcome (`whose_spelled`); a good list without two hyphens in a row is its own spelling. A list is
-// taken up to its first bad entry; whether it has one is the caller's to ask first (`ownlist::entries::check_list`).
+// list once (`spell_list`), finds where its lines end once (`line_ends`) and asks the outcome (`whose_among`); a good list without two hyphens
+// in a row is its own spelling. `whose_spelled` finds the ends itself. A list is taken up to its first bad entry; whether it has one is the
+// caller's to ask first (`listing::check_list`).
 use authserv::Identifier;
 use authserv_rules::Own;
-use entries::Entries;
-use entries::Listed;
+use listing::Entries;
+use listing::Listed;
 use punycode::Spelling;
 ghost use mathlib.Core.Path.{_≡_};
 ghost use mathlib.Core.List.{[], _∷_, _++_};
 ghost use Prim.Native.Nat.{_≤_};
-ghost use lib.ListN.{length, drop};
+ghost use lib.ListN.{length, drop, set};
 ghost use Rattle.sequences.specs.Stored.{Put};
 ghost use Rattle.lexis_rules.specs.Words.{quotedText};
 ghost use Rattle.punycode_rules.specs.Labels.{spelling};
@@ -19,11 +20,9 @@ ghost use Rattle.authserv_rules.specs.OwnList.{longest, ownList};
 ghost use Rattle.authserv_rules.specs.Identifier.{identifier};
 ghost use Rattle.authserv_rules.specs.Listed.{ownIf, ownOf};
 ghost use Rattle.authserv_rules.specs.Spelled.{spelledList, linesOf, amongSpelled, ownOfSpelled};
+ghost use Rattle.authserv_rules.specs.Ends.{endsOf, cutAt};
 
-pub mod entries;
 mod lines;
-mod utf8;
-mod visible;
 
 // The most bytes of a list as it is compared: each entry with the longest spelling, and LF.
 pub const SPELLED: usize = Entries::ENTRIES * (Spelling::LONGEST + 1);
@@ -52,7 +51,7 @@ pub fn spell_list(list: &[u8], out: &mut [u8]) -> usize
     let mut count = fresh.count;
     let mut to: usize = 0;
     loop {
-        match entries::next_entry(list, Entries { at, count }) {
+        match listing::next_entry(list, Entries { at, count }) {
             Listed::Entry { start, end } => {
                 to += put_entry(&list[start..end], out, to);
                 at = end + 1;
@@ -69,52 +68,52 @@ pub fn spell_list(list: &[u8], out: &mut [u8]) -> usize
 }
 
 // Whether a text that may have an A-label is spelled as a line. A spelling of more than 1,020 bytes is not.
-fn is_decoded_line(own: &[u8], text: &[u8]) -> bool
-    ensures { λ r. ⌜ r ≡ amongSpelled (linesOf (now (own .entry))) (now (text .entry)) ⌝ }
+fn is_decoded_line(own: &[u8], ends: &[usize], text: &[u8]) -> bool
+    ensures { λ r. ⌜ r ≡ amongSpelled (cutAt (now (own .entry)) 0 (now (ends .entry))) (now (text .entry)) ⌝ }
 {
     let mut spelled = [0u8; Spelling::LONGEST];
     let n = punycode::spell(text, &mut spelled);
     if n > Spelling::LONGEST {
         return false;
     }
-    lines::is_line(own, &spelled[..n])
+    lines::is_line(own, ends, &spelled[..n])
 }
 
 // Whether a text is spelled as a line. One without two hyphens in a row is its own spelling.
-fn is_spelled_line(own: &[u8], text: &[u8]) -> bool
-    ensures { λ r. ⌜ r ≡ amongSpelled (linesOf (now (own .entry))) (now (text .entry)) ⌝ }
+fn is_spelled_line(own: &[u8], ends: &[usize], text: &[u8]) -> bool
+    ensures { λ r. ⌜ r ≡ amongSpelled (cutAt (now (own .entry)) 0 (now (ends .entry))) (now (text .entry)) ⌝ }
 {
     if hyphens::has_double_hyphen(text) {
-        return is_decoded_line(own, text);
+        return is_decoded_line(own, ends, text);
     }
     if text.len() > Spelling::LONGEST {
         return false;
     }
-    lines::is_line(own, text)
+    lines::is_line(own, ends, text)
 }
 
 // Whether the text of the quoted string that starts at a place is spelled as a line, where it is longer than an entry.
-fn is_long_quoted_line(own: &[u8], body: &[u8], at: usize) -> bool
-    ensures { λ r. ⌜ r ≡ amongSpelled (linesOf (now (own .entry))) (quotedText (drop at (now (body .entry)))) ⌝ }
+fn is_long_quoted_line(own: &[u8], ends: &[usize], body: &[u8], at: usize) -> bool
+    ensures { λ r. ⌜ r ≡ amongSpelled (cutAt (now (own .entry)) 0 (now (ends .entry))) (quotedText (drop at (now (body .entry)))) ⌝ }
 {
     let mut text = [0u8; UNSPELLED];
     let n = texts::put_quoted(body, at, &mut text, 0);
     if n > UNSPELLED {
         return false;
     }
-    is_spelled_line(own, &text[..n])
+    is_spelled_line(own, ends, &text[..n])
 }
 
 // Whether the text of the quoted string that starts at a place is spelled as a line.
-fn is_quoted_line(own: &[u8], body: &[u8], at: usize) -> bool
-    ensures { λ r. ⌜ r ≡ amongSpelled (linesOf (now (own .entry))) (quotedText (drop at (now (body .entry)))) ⌝ }
+fn is_quoted_line(own: &[u8], ends: &[usize], body: &[u8], at: usize) -> bool
+    ensures { λ r. ⌜ r ≡ amongSpelled (cutAt (now (own .entry)) 0 (now (ends .entry))) (quotedText (drop at (now (body .entry)))) ⌝ }
 {
     let mut text = [0u8; Entries::LONGEST];
     let n = texts::put_quoted(body, at, &mut text, 0);
     if n > Entries::LONGEST {
-        return is_long_quoted_line(own, body, at);
+        return is_long_quoted_line(own, ends, body, at);
     }
-    is_spelled_line(own, &text[..n])
+    is_spelled_line(own, ends, &text[..n])
 }
 
 fn own_if(listed: bool) -> Own
@@ -123,18 +122,67 @@ fn own_if(listed: bool) -> Own
     if listed { Own::Ours } else { Own::Others }
 }
 
-// Whose the identifier of a body is, by a list as it is compared. Any bytes are taken for one: an entry is what stands before an LF, or before
-// the end.
-pub fn whose_spelled(own: &[u8], body: &[u8]) -> Own
-    ensures { λ r. ⌜ r ≡ ownOfSpelled (linesOf (now (own .entry))) (identifier (now (body .entry))) ⌝ }
+// Whose the identifier of a body is, by lines that end at these places. Any places are taken for ends.
+pub fn whose_among(own: &[u8], ends: &[usize], body: &[u8]) -> Own
+    ensures { λ r. ⌜ r ≡ ownOfSpelled (cutAt (now (own .entry)) 0 (now (ends .entry))) (identifier (now (body .entry))) ⌝ }
 {
     let Identifier::Readable { start, end, quoted } = authserv::identify(body) else {
         return Own::Unreadable;
     };
     if quoted {
-        return own_if(is_quoted_line(own, body, start));
+        return own_if(is_quoted_line(own, ends, body, start));
     }
-    own_if(is_spelled_line(own, &body[start..end]))
+    own_if(is_spelled_line(own, ends, &body[start..end]))
+}
+
+// Stores where a line ends, where there is room.
+fn store_end(e: usize, ends: &mut [usize], k: usize)
+    ensures { λ _. ⌜ now (ends .exit) ≡ set (now (ends .entry)) k e ⌝ }
+{
+    if k < ends.len() {
+        ends[k] = e;
+    }
+}
+
+// Stores where the lines of a list as it is compared end, as many as there is room for, and returns how many lines there are. Any bytes are taken
+// for such a list: a line is what stands before an LF, or before the end.
+pub fn line_ends(own: &[u8], ends: &mut [usize]) -> usize
+    ensures { λ r. ⌜ Put (now (ends .entry)) 0 (endsOf (now (own .entry))) (now (ends .exit)) r ⌝ }
+{
+    let mut at: usize = 0;
+    let mut k: usize = 0;
+    while at < own.len() {
+        let e = lines::line_end(own, at);
+        store_end(e, ends, k);
+        k += 1;
+        at = e + 1;
+    }
+    k
+}
+
+// Whose the identifier of a body is, by a list as it is compared. Any bytes are taken for one: so many lines at a time as a list has entries.
+pub fn whose_spelled(own: &[u8], body: &[u8]) -> Own
+    ensures { λ r. ⌜ r ≡ ownOfSpelled (linesOf (now (own .entry))) (identifier (now (body .entry))) ⌝ }
+{
+    let mut at: usize = 0;
+    loop {
+        let mut ends = [0usize; Entries::ENTRIES];
+        let n = line_ends(&own[at..], &mut ends);
+        if n <= Entries::ENTRIES {
+            return whose_among(&own[at..], &ends[..n], body);
+        }
+        match whose_among(&own[at..], &ends, body) {
+            Own::Ours => {
+                return Own::Ours;
+            }
+            Own::Unreadable => {
+                return Own::Unreadable;
+            }
+            Own::Others => {
+                at += ends[Entries::ENTRIES - 1] + 1;
+            }
+        }
+    }
 }
 
 // Whose the identifier of a body is, by a list.

@@ -1,12 +1,13 @@
 // The lines of our own list as it is compared: each is ended by LF.
 ghost use mathlib.Core.Path.{_≡_};
 ghost use mathlib.Core.Bool.{false};
-ghost use Prim.Native.Nat.{_+_, _≤_};
+ghost use Prim.Native.Nat.{_+_, _≤_, _<_, min};
 ghost use lib.Dec.{eqb};
-ghost use lib.ListN.{length, drop};
+ghost use lib.ListN.{length, drop, getD};
 ghost use Rattle.reading.specs.Places.{Reaches};
-ghost use Rattle.authserv_rules.specs.Spelled.{linesOf, amongLines};
-ghost use Rattle.ownlist.specs.Internal.{untilFeed};
+ghost use Rattle.lexis_rules.specs.Bytes.{alike};
+ghost use Rattle.authserv_rules.specs.Spelled.{amongLines};
+ghost use Rattle.authserv_rules.specs.Ends.{untilFeed, span, cutAt};
 
 fn is_feed(b: u8) -> bool
     ensures { λ r. ⌜ r ≡ eqb b 10 ⌝ }
@@ -43,7 +44,7 @@ fn near_feed(s: &[u8], at: usize) -> usize
 }
 
 // The next LF, or the end: sixteen bytes at a time.
-fn line_end(s: &[u8], at: usize) -> usize
+pub fn line_end(s: &[u8], at: usize) -> usize
     ensures { λ r. ⌜ r ≡ at + untilFeed (drop at (now (s .entry))) ⌝ }
 {
     let mut i = at;
@@ -59,17 +60,45 @@ fn line_end(s: &[u8], at: usize) -> usize
     }
 }
 
-// Whether a text equals a line but for ASCII case.
-pub fn is_line(own: &[u8], text: &[u8]) -> bool
-    ensures { λ r. ⌜ r ≡ amongLines (linesOf (now (own .entry))) (now (text .entry)) ⌝ }
+// The end of the line with a number, at most the end of the bytes.
+fn end_at(own: &[u8], ends: &[usize], k: usize) -> usize
+    requires { ⌜ k < length (now ends) ⌝ }
+    ensures { λ r. ⌜ r ≡ min (getD (now (ends .entry)) k 0) (length (now (own .entry))) ⌝ }
+{
+    let e = ends[k];
+    if e < own.len() {
+        return e;
+    }
+    own.len()
+}
+
+// Whether a text equals the bytes from a up to e but for ASCII case. The lengths are compared first: most lines have another one.
+fn is_span(own: &[u8], a: usize, e: usize, text: &[u8]) -> bool
+    requires { ⌜ e ≤ length (now own) ⌝ }
+    ensures { λ r. ⌜ r ≡ alike (span (now (own .entry)) a e) (now (text .entry)) ⌝ }
+{
+    if reading::rest(e, a) != text.len() {
+        return false;
+    }
+    if e <= a {
+        return true;
+    }
+    texts::same_text(&own[a..e], text)
+}
+
+// Whether a text equals a line but for ASCII case, where the lines end at these places. Any places are taken for ends.
+pub fn is_line(own: &[u8], ends: &[usize], text: &[u8]) -> bool
+    ensures { λ r. ⌜ r ≡ amongLines (cutAt (now (own .entry)) 0 (now (ends .entry))) (now (text .entry)) ⌝ }
 {
     let mut at: usize = 0;
-    while at < own.len() {
-        let e = line_end(own, at);
-        if texts::same_text(&own[at..e], text) {
+    let mut k: usize = 0;
+    while k < ends.len() {
+        let e = end_at(own, ends, k);
+        if is_span(own, at, e, text) {
             return true;
         }
         at = e + 1;
+        k += 1;
     }
     false
 }

@@ -11,10 +11,11 @@ use Rattle.sequences.proofs.Splices.{put-front}
 use Rattle.punycode_rules.specs.Unicode.{utf8s}
 use Rattle.punycode_rules.specs.Labels.{decoded, spelling, spellingLimit}
 use Rattle.punycode.specs.declared.Decoded.the-variants as answer
-use Rattle.punycode.specs.declared.points.Points.{Points}
-use Rattle.punycode.specs.declared.points.Points.the-variants.{Read, Failed, Long}
+use Rattle.code_points.specs.declared.Points.{Points}
+use Rattle.code_points.specs.declared.Points.the-variants.{Read, Failed, Long}
 use Rattle.punycode.specs.Answers.{decodeAnswer, decodeStored, spellAnswer, spellStored}
-use Rattle.punycode.specs.Internal.{Tells, Spelt}
+use Rattle.code_points.specs.Answers.{Tells}
+use Rattle.punycode.specs.Internal.{Spelt}
 
 -- ==== one label behind its prefix
 

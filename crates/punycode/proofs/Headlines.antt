@@ -15,7 +15,8 @@ use Rattle.reading.specs.Texts.{bytes}
 use Rattle.reading.proofs.Cases.{copies}
 use Rattle.punycode_rules.specs.Labels.{spelling, spellingLimit}
 use Rattle.punycode_rules.proofs.Opened.{opened}
-use Rattle.punycode.specs.Answers.{fits, spellAnswer, spellStored}
+use Rattle.code_points.specs.Answers.{fits}
+use Rattle.punycode.specs.Answers.{spellAnswer, spellStored}
 
 module _ (t : List ℕ) where
   answer-within : fits (spelling t) ≡ true → spellAnswer t ≡ length (spelling t)

@@ -13,11 +13,12 @@ use Rattle.sequences.specs.Stored.{Put}
 use Rattle.sequences.proofs.Splices.{Left, left-start, left-step, left-done, left-byte, put-wrote}
 use Rattle.reading.specs.Texts.{oneOf}
 use Rattle.reading.specs.Readers.{run}
-use Rattle.punycode.specs.declared.points.Points.{Points}
-use Rattle.punycode.specs.declared.points.Points.the-variants.{Read, Failed, Long}
+use Rattle.code_points.specs.declared.Points.{Points}
+use Rattle.code_points.specs.declared.Points.the-variants.{Read, Failed, Long}
 use Rattle.punycode_rules.specs.Unicode.{scalars, utf8s}
 use Rattle.punycode_rules.specs.Labels.{decoded, prefixed, spelled, spelling, spellingLimit, inLabel}
-use Rattle.punycode.specs.Internal.{Spells, Spelt, Tells}
+use Rattle.punycode.specs.Internal.{Spells, Spelt}
+use Rattle.code_points.specs.Answers.{Tells}
 use Rattle.punycode_rules.proofs.Encoding.{utf8s-bounds}
 use Rattle.punycode_rules.proofs.Spelling.{spelled-plain, spelled-failed, spelled-some, scalars-of, end-low, here-last, here-more}
 

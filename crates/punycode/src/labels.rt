@@ -1,8 +1,7 @@
 // Labels: where one ends, whether it starts with xn--, and labels written as they are compared.
 use super::Spelling;
-use super::points;
-use super::points::Points;
 use super::utf8;
+use code_points::Points;
 ghost use mathlib.Core.Path.{_≡_};
 ghost use mathlib.Core.List.{[], _∷_};
 ghost use Prim.Native.Nat.{_+_, _≤_};
@@ -67,7 +66,7 @@ fn put_label(l: &[u8], out: &mut [u8], to: usize) -> usize
 {
     if is_prefixed(l) {
         let mut points = [0u32; Spelling::LONGEST];
-        let d = points::read_points(&l[4..], &mut points);
+        let d = code_points::read_label(&l[4..], &mut points);
         match d {
             Points::Read(n) => {
                 return utf8::put_points(&points, n, out, to);

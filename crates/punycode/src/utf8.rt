@@ -1,22 +1,11 @@
 // UTF-8 (RFC 3629): the numbers that it encodes, and code points written.
-use super::numbers;
 ghost use mathlib.Core.Path.{_≡_};
 ghost use mathlib.Core.Bool.{true};
 ghost use Prim.Native.Nat.{_+_, _*_, _<_, _≤_};
 ghost use lib.ListN.{length, take, set};
 ghost use Rattle.sequences.specs.Stored.{Put};
-ghost use Rattle.punycode_rules.specs.Unicode.{scalar, scalars, utf8, utf8s};
+ghost use Rattle.punycode_rules.specs.Unicode.{scalars, utf8, utf8s};
 ghost use Rattle.punycode_rules.specs.Labels.{spellingLimit};
-
-// Whether UTF-8 encodes a number: up to 10FFFF hex, and no surrogate.
-pub(crate) fn is_scalar(x: u64) -> bool
-    ensures { λ r. ⌜ r ≡ scalar x ⌝ }
-{
-    if x < 0xD800 {
-        return true;
-    }
-    numbers::is_within(0xE000, 0x10FFFF, x)
-}
 
 // Stores a byte, where there is such a place.
 pub(crate) fn store(out: &mut [u8], at: usize, b: u8)

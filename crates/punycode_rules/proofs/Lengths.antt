@@ -84,7 +84,8 @@ decoded-length xs u l e = go (basic (take (beforeLast 0 0 xs) xs)) refl
         after (suc b) i n = omega (arith, n, length-drop (suc (suc b)) xs, length-take-le (suc b) xs (omega arith))
     go false t = absurd-some u (sym (decoded-no xs (beforeLast 0 0 xs) refl t) ∙ e)
 
-decoded-most : (xs u : List ℕ) → decoded xs ≡ some u → length u ≤ length xs
+-- a label has no more code points than it has bytes behind its prefix
+pub decoded-most : (xs u : List ℕ) → decoded xs ≡ some u → length u ≤ length xs
 decoded-most xs u e = go (basic (take (beforeLast 0 0 xs) xs)) refl
   where
     go : (t : Bool) → basic (take (beforeLast 0 0 xs) xs) ≡ t → length u ≤ length xs

@@ -6,8 +6,8 @@ use native.Mathlib.Nat.{add-zero}
 use native.Mathlib.Omega.{arith}
 use mathlib.Core.Path.{_≡_, refl, sym, ap, _∙_}
 use mathlib.Core.Bool.{Bool, true, false, _||_}
-use mathlib.Core.List.{List, _∷_}
-use lib.Dec.{eqb}
+use mathlib.Core.List.{List, [], _∷_}
+use lib.Dec.{T, eqb}
 use lib.ListN.{length, getD, drop, length-drop, drop-of-length-le}
 use lib.Seq.{drop-cons, drop-drop, getD-drop}
 use mir.Syntax.{w64}
@@ -17,6 +17,7 @@ use Rattle.reading.specs.Places.{Reaches}
 use Rattle.reading.specs.Locality.{Fits}
 use Rattle.reading.proofs.Readers.{there-at, many-more, many-none, many-run, between-is, between-not}
 use Rattle.sequences.proofs.Booleans.{no-true}
+use Rattle.sequences.proofs.Tables.{tested, tested-at}
 
 module _ {f : Reader} {s : List ℕ} {at : ℕ} where
   pub reaches-start : Reaches f s at at
@@ -53,6 +54,15 @@ module _ (c : ℕ → Bool) (s : List ℕ) (at i : ℕ) where
   pub run-out : Reaches (run c) s at i → length s ≤ i → i ≡ at + run c (drop at s)
   unfolding run
   run-out w h = reaches-end w (rw drop-of-length-le)
+
+-- where the first byte is not of the class there is none
+pub run-shut : (c : ℕ → Bool) (s : List ℕ) (at : ℕ) (r : Bool) → r ≡ c (getD (drop at s) 0 0) → r ≡ false → at ≡ at + run c (drop at s)
+unfolding run
+run-shut c s at r e q = go (drop at s) (sym e ∙ q)
+  where
+    go : (xs : List ℕ) → c (getD xs 0 0) ≡ false → at ≡ at + run c xs
+    go [] t = omega arith
+    go (x ∷ xs) t = rw (run, t) (omega arith)
 
 -- ==== a run, several bytes at once: j of them are passed
 
@@ -127,3 +137,11 @@ pub hits-on : (c : ℕ → Bool) (s : List ℕ) (at j : ℕ) (hit r : Bool) → 
     → (r ≡ false → c (getD s (at + j) 0) ≡ true) → (hit || r) ≡ false → Reaches (run c) s at (at + (j + 1))
 hits-on c s at j true r w h f e = absurd (no-true (sym e))
 hits-on c s at j false r w h f e = piece-more c s at j true (w refl) h (sym (f e)) refl
+
+-- a byte that a test lets pass is of the class, because that holds of all bytes: one computed test
+pub unstopped : (stops c : ℕ → Bool) → T (tested (λ b. stops b || c b) 0 256) → (b : ℕ) → b < 256 → stops b ≡ false → c b ≡ true
+unstopped stops c t b h e = go (c b) (rw e at (tested-at (λ b. stops b || c b) 256 b t h))
+  where
+    go : (r : Bool) → T r → r ≡ true
+    go true k = refl
+    go false k = absurd k

@@ -4,7 +4,7 @@ use native.Mathlib.Nat.{zero-add, le-of-suc-le-suc, not-suc-le-zero}
 use native.Mathlib.Omega.{arith}
 use mathlib.Core.Path.{_≡_, refl, sym, ap, _∙_}
 use mathlib.Core.Bool.{Bool, true, false, cond}
-use mathlib.Core.List.{List, [], _∷_}
+use mathlib.Core.List.{List, [], _∷_, _++_}
 use lib.Dec.{eqb}
 use lib.ListN.{length, getD, drop, take, length-drop}
 use lib.Seq.{drop-nil}
@@ -157,6 +157,17 @@ module _ (f : Reader) where
   unfolding lasts
   lasts-more [] n e h = absurd (not-suc-le-zero h)
   lasts-more (x ∷ xs) n e h = rw (lasts, e) (ap (λ (l : List ℕ). getD (x ∷ xs) n 0 ∷ l) (lasts-skip n xs))
+
+  -- bytes of a run of which f takes one at a time are their own last bytes
+  pub lasts-run : (c : ℕ → Bool) → ((x : ℕ) (xs : List ℕ) → c x ≡ true → f (x ∷ xs) ≡ 1) → (k : ℕ) (xs : List ℕ) → k ≤ run c xs → lasts f 0 xs ≡ take k xs ++ lasts f 0 (drop k xs)
+  unfolding lasts run
+  lasts-run c O zero xs h = refl
+  lasts-run c O (suc k) [] h = absurd (not-suc-le-zero h)
+  lasts-run c O (suc k) (x ∷ xs) h = go (c x) refl (lasts-run c O k xs)
+    where
+      go : (t : Bool) → c x ≡ t → (k ≤ run c xs → lasts f 0 xs ≡ take k xs ++ lasts f 0 (drop k xs)) → lasts f 0 (x ∷ xs) ≡ x ∷ (take k xs ++ lasts f 0 (drop k xs))
+      go true e ih = rw (lasts, O x xs e) (ap (λ (l : List ℕ). x ∷ l) (ih (le-of-suc-le-suc (rw (run, e) at h))))
+      go false e ih = absurd (not-suc-le-zero (rw (run, e) at h))
 
   module _ (F : Fits f) where
     pub many-fits : (k : ℕ) (xs : List ℕ) → k ≤ length xs → many f k xs ≤ length xs

@@ -64,7 +64,7 @@ module _ (room : ℕ) where
   whole-nine (noResult i) e = absurd (omega arith)
   whole-nine (results i rs) e = absurd (omega arith)
 
-reading-not : (s : List ℕ) → identifier s ≡ nothing → reading s ≡ unreadable
+pub reading-not : (s : List ℕ) → identifier s ≡ nothing → reading s ≡ unreadable
 unfolding reading head
 reading-not s e = let h : head s ≡ nothing = bind-none identifier _ s e in rw (reading, h)
 

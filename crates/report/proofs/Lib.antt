@@ -4,3 +4,4 @@ pub mod Passes
 pub mod Payloads
 pub mod Heads
 pub mod Ends
+pub mod Measures

@@ -14,6 +14,7 @@ use Rattle.reading.proofs.Repeats.{list-none, end-none, further, list-more, end
 use Rattle.lexis_rules.specs.Limits.{byteLimit}
 use Rattle.resinfo_rules.specs.Results.{Result}
 use Rattle.resinfo_rules.specs.Table.{understood}
+use Rattle.resinfo.specs.Parts.{spaced}
 use Rattle.body.specs.Body.{resinfo}
 use Rattle.body.specs.Report.{resultLines, lines, ignoredOf}
 use Rattle.body.proofs.Sequence.{resinfo-within}
@@ -44,15 +45,17 @@ module _ (r : Result) (rs : List Result) where
 
 -- ==== the loop
 
--- the loop over the results behind a place stands at i: what is left to read, to write and to count ends as the whole would have
-pub record Passing (s : List ℕ) (at : ℕ) (old : List ℕ) (to : ℕ) (out : List ℕ) (i n ignored : ℕ) : Type 0 where
+-- the loop over the results behind a place stands at i, behind which the space ends at g: what is left to read, to write and to count
+-- ends as the whole would have
+pub record Passing (s : List ℕ) (at : ℕ) (old : List ℕ) (to : ℕ) (out : List ℕ) (i g n ignored : ℕ) : Type 0 where
+  pub gap : g ≡ spaced s i
   pub left : Fronting old to (lines (listAt resinfo s at)) out n (lines (listAt resinfo s i))
   pub end : endAt resinfo s i ≡ endAt resinfo s at
   pub count : ignored + ignoredOf (listAt resinfo s i) ≡ ignoredOf (listAt resinfo s at)
   pub few : ignored + at ≤ i
 
-pub passing-start : (s : List ℕ) (at : ℕ) (old : List ℕ) (to : ℕ) → Passing s at old to old at to 0
-passing-start s at old to = record { left = fronting-start _ _ _; end = refl; count = zero-add _; few = omega arith }
+pub passing-start : (s : List ℕ) (at : ℕ) (old : List ℕ) (to g : ℕ) → g ≡ spaced s at → Passing s at old to old at g to 0
+passing-start s at old to g y = record { gap = y; left = fronting-start _ _ _; end = refl; count = zero-add _; few = omega arith }
 
 -- the lines of a result, understood or not, are at most three times as long as it
 turn-short : (s : List ℕ) (i : ℕ) → length s ≤ byteLimit → length (turnLines s i) ≤ 3 * byteLimit
@@ -67,14 +70,15 @@ turn-short s i l = go (from resinfo s i) refl
         let z = resinfo-size (drop i s) r (t .size) (t .is) in
         rw (turnLines, e) (omega (arith, l, m, z, t .sum))
 
-module _ (s : List ℕ) (at : ℕ) (old : List ℕ) (to : ℕ) (out : List ℕ) (i n ignored : ℕ) (w : Passing s at old to out i n ignored) where
+module _ (s : List ℕ) (at : ℕ) (old : List ℕ) (to : ℕ) (out : List ℕ) (i g n ignored : ℕ) (w : Passing s at old to out i g n ignored) where
   -- there is room for the lines of the next result, understood or not
-  pub passing-room : length s ≤ byteLimit → to + length (lines (listAt resinfo s at)) < 2 ^ 63 → n + length (turnLines s i) < 2 ^ 64
-  passing-room l h = omega (arith, turn-short s i l, h, w .left .place)
+  pub passing-room : length s ≤ byteLimit → to + length (lines (listAt resinfo s at)) < 2 ^ 63
+      → (g ≡ spaced s i) × (n + length (turnLines s i) < 2 ^ 64)
+  passing-room l h = (w .gap, omega (arith, turn-short s i l, h, w .left .place))
 
   module _ (new : List ℕ) (t : Turn) (p : TurnPut s i out n new t) where
-    module _ (e m : ℕ) (u : Bool) (q : t ≡ turn.Read e m u) where
-      read : TurnRead s i out n new e m u
+    module _ (e x m : ℕ) (u : Bool) (q : t ≡ turn.Read e x m u) where
+      read : TurnRead s i out n new e x m u
       read = subst (TurnPut s i out n new) q p
 
       more : listAt resinfo s i ≡ read .result ∷ listAt resinfo s e
@@ -87,12 +91,13 @@ module _ (s : List ℕ) (at : ℕ) (old : List ℕ) (to : ℕ) (out : List ℕ) 
       passing-further = further resinfo s i resinfo-within (read .result) e (read .reads)
 
       -- it is understood: its lines stay
-      pub passing-shown : u ≡ true → Passing s at old to new e m ignored
+      pub passing-shown : u ≡ true → Passing s at old to new e x m ignored
       passing-shown z =
           let rs = listAt resinfo s e in
           let k : understood (read .result) ≡ true = sym (read .known) ∙ z in
           let c = rw (more, ignored-not (read .result) rs k) at (w .count) in
           record {
+            gap = read .gap;
             left = fronting-step (w .left) (ap lines more ∙ lines-shown (read .result) rs k) (read .wrote);
             end = same-end;
             count = c;
@@ -100,13 +105,14 @@ module _ (s : List ℕ) (at : ℕ) (old : List ℕ) (to : ℕ) (out : List ℕ) 
           }
 
       -- it is not: the next lines are written over its own
-      pub passing-ignored : u ≡ false → Passing s at old to new e n (ignored + 1)
+      pub passing-ignored : u ≡ false → Passing s at old to new e x n (ignored + 1)
       passing-ignored z =
           let rs = listAt resinfo s e in
           let k : understood (read .result) ≡ false = sym (read .known) ∙ z in
           let c = rw (more, ignored-one (read .result) rs k) at (w .count) in
           let l = fronting-over (w .left) (read .wrote) in
           record {
+            gap = read .gap;
             left = rw (more, lines-ignored (read .result) rs k) at l;
             end = same-end;
             count = omega (arith, c);
@@ -118,7 +124,7 @@ module _ (s : List ℕ) (at : ℕ) (old : List ℕ) (to : ℕ) (out : List ℕ) 
       none : (nothing ≡ from resinfo s i) × (new ≡ out)
       none = subst (TurnPut s i out n new) q p
 
-      pub passed : ResultsPut s at old to new (record { end = i; next = n; ignored = ignored })
+      pub passed : ResultsPut s at old to new (record { end = i; gap = g; next = n; ignored = ignored })
       unfolding lines ignoredOf
       passed =
           let h = none .0 in
@@ -126,6 +132,7 @@ module _ (s : List ℕ) (at : ℕ) (old : List ℕ) (to : ℕ) (out : List ℕ) 
           let c = rw l at (w .count) in
           record {
             end = sym (end-none resinfo s i h) ∙ w .end;
+            gap = w .gap;
             ignored = omega (arith, c);
             next = fronting-end (w .left) (rw l);
             bytes = rw (none .1) (fronting-done (w .left) (rw l));

@@ -2,7 +2,7 @@
 -- results and the grammar after them, which is the same because the word begins no result. Assumes nothing.
 use Prim.Native.Nat.{ℕ, _+_, _*_, _≤_, _<_, _^_}
 use native.Mathlib.Omega.{arith}
-use mathlib.Core.Path.{_≡_, refl, sym, _∙_}
+use mathlib.Core.Path.{_≡_, refl, sym, ap, _∙_}
 use mathlib.Core.Bool.{Bool, true, false}
 use mathlib.Core.List.{List, [], _∷_}
 use borrow.Author.Tests.{leb-true, leb-false}
@@ -24,9 +24,9 @@ use Rattle.lexis_rules.specs.Bytes.{lower, alike}
 use Rattle.lexis_rules.specs.Pieces.{space, keyword}
 use Rattle.lexis_rules.specs.Words.{keywordText, skip, readKeyword, readWord}
 use Rattle.resinfo_rules.specs.Results.{Result, mark}
-use Rattle.resinfo.specs.Parts.{marked}
+use Rattle.resinfo.specs.Parts.{spaced, marked, markedFrom}
 use Rattle.values.specs.Values.{span}
-use Rattle.resinfo.proofs.Marks.{mark-is, mark-reads, keyword-reads, marked-no}
+use Rattle.resinfo.proofs.Marks.{mark-is, mark-reads, mark-found, keyword-reads, marked-no}
 use Rattle.body.specs.Body.{Reading, malformed, noResult, results, resinfo, resinfos, wordNone, payload}
 use Rattle.body.specs.Report.{line, noneLine, lines}
 use Rattle.body.proofs.Readings.{payload-is}
@@ -56,7 +56,10 @@ none-lower : (k : List ℕ) → same (keywordText k) (bytes "none") ≡ alike k 
 unfolding alike lower within
 none-lower k = refl
 
-module _ (s : List ℕ) (at a : ℕ) (q : a ≡ at + marked 59 (drop at s)) where
+module _ (s : List ℕ) (at g : ℕ) (y : g ≡ spaced s at) (a : ℕ) (x : a ≡ markedFrom 59 s at g) where
+  q : a ≡ at + marked 59 (drop at s)
+  q = mark-found s at g 59 y a x
+
   pub none-no-mark : a ≡ at → false ≡ succeeds wordNone (drop at s)
   unfolding wordNone
   none-no-mark z = succeeds-none wordNone s at (stops (mark 59) _ s at (mark-reads s at 59 .missing a q z))
@@ -83,14 +86,14 @@ module _ (s : List ℕ) (at a : ℕ) (q : a ≡ at + marked 59 (drop at s)) wher
           (behind-mark nothing (stops (readWord (bytes "none")) _ s a (is-word nothing (fails (alike (span s a e) (bytes "none")) s e (sym h ∙ t)))))
 
       -- the word, and after space the end or something else
-      pub none-word : r ≡ true → (f : ℕ) → f ≡ e + space (drop e s) → leb (length s) f ≡ succeeds wordNone (drop at s)
-      none-word t f g = go (leb (length s) f) refl
+      pub none-word : r ≡ true → (f : ℕ) → f ≡ spaced s e → leb (length s) f ≡ succeeds wordNone (drop at s)
+      none-word t f j = go (leb (length s) f) refl
         where
           behind-word : (x : Got (Unit {0})) → x ≡ from end s f → x ≡ from wordNone s at
           behind-word x k =
               behind-mark x
               (goes-on (readWord (bytes "none")) _ s a tt e x (is-word (got tt e) (passes (alike (span s a e) (bytes "none")) s e (sym h ∙ t)))
-              (goes-on skip _ s e tt f x (skipping-at space s e f g) k))
+              (goes-on skip _ s e tt f x (skipping-at space s e f j) k))
 
           go : (b : Bool) → leb (length s) f ≡ b → leb (length s) f ≡ succeeds wordNone (drop at s)
           go true i = i ∙ succeeds-got wordNone s at tt f (behind-word (got tt f) (end-at s f (leb-true (length s) f i)))
@@ -210,8 +213,9 @@ none-fits : (to : ℕ) → to ≤ 2 ^ 32 → to + length noneLine ≤ cap
 unfolding noneLine line
 none-fits to h = let l : length noneLine ≡ 5 = refl in omega arith
 
-pub payload-room : (s : List ℕ) (at to : ℕ) → Room s to → (length s ≤ byteLimit) × (to + length (lines (listAt resinfo s at)) < 2 ^ 63)
-payload-room s at to room = (room .0, omega (arith, list-size s at (room .0), room .1))
+pub payload-room : (s : List ℕ) (at to g : ℕ) → Room s to → g ≡ spaced s at
+    → (g ≡ spaced s at) × ((length s ≤ byteLimit) × (to + length (lines (listAt resinfo s at)) < 2 ^ 63))
+payload-room s at to g room y = (y, (room .0, omega (arith, list-size s at (room .0), room .1)))
 
 -- of a body that is not well-formed only what comes before is told
 pub behind-malformed : {x : Reading} {old new text : List ℕ} {to : ℕ} {r : Reported} → x ≡ malformed → r ≡ refused 9 0 → Fronted old to text new
@@ -235,17 +239,16 @@ module _ (s : List ℕ) (at : ℕ) (old : List ℕ) (to : ℕ) (r : Bool) (h : r
           let l : listAt resinfo s at ≡ [] = list-empty resinfo resinfo-within s at (sym (k .end) ∙ z) in
           behind-malformed (payload-empty (drop at s) no (λ rs n p. sym (list-same s at rs n p) ∙ l)) e (k .bytes)
 
-      module _ (g : ℕ) (q : g ≡ d .end + space (drop (d .end) s)) where
-        ends : g ≡ endAt resinfo s at + space (drop (endAt resinfo s at) s)
-        ends = rw (k .end) at q
+      ends : d .gap ≡ spaced s (endAt resinfo s at)
+      ends = k .gap ∙ ap (spaced s) (k .end)
 
-        pub payload-not-ended : g < length s → (x : Reported) → x ≡ refused 9 0 → Behind (payload [] (drop at s)) old to new x
-        payload-not-ended l x e =
-            behind-malformed (payload-open (drop at s) no (list-open s at g ends l)) e (k .bytes)
+      pub payload-not-ended : d .gap < length s → (x : Reported) → x ≡ refused 9 0 → Behind (payload [] (drop at s)) old to new x
+      payload-not-ended l x e =
+          behind-malformed (payload-open (drop at s) no (list-open s at (d .gap) ends l)) e (k .bytes)
 
-        pub payload-results : (d .end ≡ at → ⊥) → length s ≤ g
-            → Behind (payload [] (drop at s)) old to new (record { number = 0; place = 0; written = d .next; ignored = d .ignored })
-        payload-results ne l =
-            let t = took resinfos s at (listAt resinfo s at) g (list-closed s at g ends l) in
-            let p = payload-some (drop at s) (listAt resinfo s at) (t .size) (t .is) (list-some resinfo resinfo-within s at (λ z. ne (k .end ∙ z))) in
-            rw p (record { answer = rw (k .next, k .ignored); bytes = k .bytes })
+      pub payload-results : (d .end ≡ at → ⊥) → length s ≤ d .gap
+          → Behind (payload [] (drop at s)) old to new (record { number = 0; place = 0; written = d .next; ignored = d .ignored })
+      payload-results ne l =
+          let t = took resinfos s at (listAt resinfo s at) (d .gap) (list-closed s at (d .gap) ends l) in
+          let p = payload-some (drop at s) (listAt resinfo s at) (t .size) (t .is) (list-some resinfo resinfo-within s at (λ z. ne (k .end ∙ z))) in
+          rw p (record { answer = rw (k .next, k .ignored); bytes = k .bytes })

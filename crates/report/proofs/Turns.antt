@@ -4,8 +4,10 @@ use Prim.Native.Nat.{ℕ, _+_, _≤_, _<_, _^_}
 use native.Mathlib.Omega.{arith}
 use mathlib.Core.Path.{_≡_, refl, sym, ap, _∙_, subst}
 use mathlib.Core.Bool.{Bool, true, false, _&&_, and-true, and-assoc}
+use mathlib.Core.Logic.{_⊎_, ⊎-elim}
 use mathlib.Core.List.{List, _∷_, _++_, map}
 use mathlib.Core.Option.{none, some}
+use denote.Enum.Declared.{tagOf}
 use lib.ListN.{length, drop, length-append}
 use lib.Seq.{drop-drop}
 use Rattle.sequences.specs.Stored.{cap, Wrote, Clipped}
@@ -21,6 +23,7 @@ use Rattle.lexis_rules.specs.Pieces.{space}
 use Rattle.lexis_rules.specs.Words.{keywordText, skip}
 use Rattle.authserv.specs.Answers.{textOf}
 use Rattle.resinfo.specs.declared.Step.{Step}
+use Rattle.resinfo.proofs.Step.{the-type}
 use Rattle.resinfo.specs.declared.Step.the-variants as step
 use Rattle.resinfo.specs.declared.parts.Label.{Label}
 use Rattle.resinfo.specs.declared.parts.Label.the-variants as label
@@ -31,10 +34,10 @@ use Rattle.values.specs.declared.Found.the-variants as found
 use Rattle.values.specs.declared.Value as place
 use Rattle.resinfo_rules.specs.Results.{Property, Result, next, reason, property, methodspec, result}
 use Rattle.values.specs.Values.{span, valueOf, valueAt}
-use Rattle.resinfo.specs.Parts.{marked, methodAt, reasonAt, reasonGot, labelAt}
-use Rattle.resinfo.specs.Steps.{closes, endOf, propertyOf, stepOf, stepAt, propertyGot}
+use Rattle.resinfo.specs.Parts.{spaced, marked, markedFrom, methodAt, reasonFrom, reasonGot, labelAt}
+use Rattle.resinfo.specs.Steps.{isEnd, endOf, propertyOf, stepOf, stepFrom, stepAt, propertyGot}
 use Rattle.resinfo_rules.specs.Table.{listed, tabled, table, ptypes, knownVersion, knownMethod, knownTypes, understood}
-use Rattle.resinfo.proofs.Marks.{marked-yes, marked-no}
+use Rattle.resinfo.proofs.Marks.{marked-yes, marked-no, mark-found}
 use Rattle.resinfo.proofs.Methods.{method-found, method-not}
 use Rattle.resinfo.proofs.Reasons.{reason-got}
 use Rattle.resinfo.proofs.Steps.{step-got}
@@ -75,25 +78,26 @@ module _ {A : Type 0} (p : Parser A) (s : List ℕ) (i : ℕ) where
 
 -- ==== the reason
 
-module _ (s : List ℕ) (i : ℕ) where
-  reason-found : (a e : ℕ) (q : Bool) → Stated a e q ≡ reasonAt s i → got (textOf s a e q) e ≡ from reason s i
-  reason-found a e true h = ap (reasonGot s) h ∙ reason-got s i
-  reason-found a e false h = ap (reasonGot s) h ∙ reason-got s i
+-- the space behind the place i ends at g
+module _ (s : List ℕ) (i g : ℕ) (y : g ≡ spaced s i) where
+  reason-found : (a e : ℕ) (q : Bool) → Stated a e q ≡ reasonFrom s i g → got (textOf s a e q) e ≡ from reason s i
+  reason-found a e true h = ap (reasonGot s) (h ∙ ap (reasonFrom s i) y) ∙ reason-got s i
+  reason-found a e false h = ap (reasonGot s) (h ∙ ap (reasonFrom s i) y) ∙ reason-got s i
 
-  module _ (a e : ℕ) (q : Bool) (h : Stated a e q ≡ reasonAt s i) where
+  module _ (a e : ℕ) (q : Bool) (h : Stated a e q ≡ reasonFrom s i g) where
     pub reason-put : (old new : List ℕ) (to n : ℕ) → to + length (reasonLine (optionAt reason s i)) < 2 ^ 64 → Clipped old to (reasonText s a e q) new n
-        → ReasonPut s i old to new (record { end = e; next = n })
-    reason-put old new to n l c =
+        → (x : ℕ) → x ≡ spaced s e → ReasonPut s i old to new (record { end = e; gap = x; next = n })
+    reason-put old new to n l c x z =
         let f = reason-found a e q h in
         let o = option-some reason s i (textOf s a e q) e f in
         let k : to + length (reasonText s a e q) < 2 ^ 64 = rw o at l in
-        record { end = sym (end-some reason s i (textOf s a e q) e f); wrote = rw o (clipped-wrote (omega arith) c) }
+        record { end = sym (end-some reason s i (textOf s a e q) e f); gap = z; wrote = rw o (clipped-wrote (omega arith) c) }
 
-  pub reason-absent : Absent ≡ reasonAt s i → (old : List ℕ) (to : ℕ) → ReasonPut s i old to old (record { end = i; next = to })
+  pub reason-absent : Absent ≡ reasonFrom s i g → (old : List ℕ) (to : ℕ) → ReasonPut s i old to old (record { end = i; gap = g; next = to })
   unfolding reasonLine
   reason-absent h old to =
-      let f : nothing ≡ from reason s i = ap (reasonGot s) h ∙ reason-got s i in
-      record { end = sym (end-missing reason s i f); wrote = rw (option-missing reason s i f) (wrote-none old to) }
+      let f : nothing ≡ from reason s i = ap (reasonGot s) (h ∙ ap (reasonFrom s i) y) ∙ reason-got s i in
+      record { end = sym (end-missing reason s i f); gap = y; wrote = rw (option-missing reason s i f) (wrote-none old to) }
 
 -- ==== properties
 
@@ -121,12 +125,12 @@ module _ (s : List ℕ) (i : ℕ) where
           let p = label-places s i a e b f k h in
           record { ptype = p .ptype; typed = omega (arith, p .dot, p .property, p .equals, p .inside) }
 
-      go : (l : Label) → labelAt s i ≡ l → PropertyStands s (stepOf s i l)
-      go label.Missing h = ends (closes (drop i s))
+      go : (l : Label) → labelAt s i ≡ l → PropertyStands s (stepOf s (spaced s i) l)
+      go label.Missing h = ends (isEnd (drop (spaced s i) s))
       go (label.Read a e b f k) h = valued a e b f k (sym h) (valueAt s k) refl
 
-  pub property-places : (a e b f : ℕ) (v : place.Value) (x : ℕ) → step.Property a e b f v x ≡ stepAt s i → TypeStands s a e
-  property-places a e b f v x h = subst (λ (r : Step). PropertyStands s r) (sym h) property-stands
+  pub property-places : (g : ℕ) → g ≡ spaced s i → (a e b f : ℕ) (v : place.Value) (x : ℕ) → step.Property a e b f v x ≡ stepFrom s i g → TypeStands s a e
+  property-places g y a e b f v x k = let h = k ∙ ap (stepFrom s i) y in subst (λ (r : Step). PropertyStands s r) (sym h) property-stands
 
 abbrev propertyOn : List ℕ → ℕ → ℕ → ℕ → ℕ → place.Value → Property
 propertyOn s a e b f v = record { ptype = keywordText (span s a e); property = keywordText (span s b f); value = valueOf s v }
@@ -139,19 +143,25 @@ types-more : (p : Property) (ps : List Property) → knownTypes (p ∷ ps) ≡ (
 unfolding knownTypes
 types-more p ps = refl
 
--- the loop over the properties behind a place stands at i: what is left to read and to write ends as the whole would have
-pub record Writing (s : List ℕ) (at : ℕ) (old : List ℕ) (to : ℕ) (out : List ℕ) (i n : ℕ) (known : Bool) : Type 0 where
+-- the loop over the properties behind a place stands at i, behind which the space ends at g: what is left to read and to write ends as
+-- the whole would have
+pub record Writing (s : List ℕ) (at : ℕ) (old : List ℕ) (to : ℕ) (out : List ℕ) (i g n : ℕ) (known : Bool) : Type 0 where
+  pub gap : g ≡ spaced s i
   pub left : Left old to (propertyLines (listAt property s at)) out n (propertyLines (listAt property s i))
   pub end : endAt property s i ≡ endAt property s at
   pub types : (known && knownTypes (listAt property s i)) ≡ knownTypes (listAt property s at)
 
-pub writing-start : (s : List ℕ) (at : ℕ) (old : List ℕ) (to : ℕ) → Writing s at old to old at to true
-writing-start s at old to = record { left = left-start _ _ _; end = refl; types = refl }
+pub writing-start : (s : List ℕ) (at : ℕ) (old : List ℕ) (to g : ℕ) → g ≡ spaced s at → Writing s at old to old at g to true
+writing-start s at old to g y = record { gap = y; left = left-start _ _ _; end = refl; types = refl }
 
-module _ (s : List ℕ) (at : ℕ) (old : List ℕ) (to : ℕ) (out : List ℕ) (i n : ℕ) (known : Bool) (w : Writing s at old to out i n known) where
-  module _ (a e b f : ℕ) (v : place.Value) (x : ℕ) (h : step.Property a e b f v x ≡ stepAt s i) where
+module _ (s : List ℕ) (at : ℕ) (old : List ℕ) (to : ℕ) (out : List ℕ) (i g n : ℕ) (known : Bool) (w : Writing s at old to out i g n known) where
+  -- what a step finds is what the parser of properties yields
+  stepped : (t : Step) → t ≡ stepFrom s i g → propertyGot s t ≡ from property s i
+  stepped t h = ap (propertyGot s) (h ∙ ap (stepFrom s i) (w .gap)) ∙ step-got s i
+
+  module _ (a e b f : ℕ) (v : place.Value) (x : ℕ) (h : step.Property a e b f v x ≡ stepFrom s i g) where
     read : got (propertyOn s a e b f v) x ≡ from property s i
-    read = ap (propertyGot s) h ∙ step-got s i
+    read = stepped (step.Property a e b f v x) h
 
     more : listAt property s i ≡ propertyOn s a e b f v ∷ listAt property s x
     more = list-more property s i property-within (propertyOn s a e b f v) x read
@@ -168,33 +178,35 @@ module _ (s : List ℕ) (at : ℕ) (old : List ℕ) (to : ℕ) (out : List ℕ) 
         let k = length-append (propertyText s a e b f v) (propertyLines (listAt property s x)) in omega (arith, l, k, ap length split, w .left .place)
 
     pub writing-more : to + length (propertyLines (listAt property s at)) < 2 ^ 64 → (t : Bool) → t ≡ (known && listed ptypes (map lower (span s a e)))
-        → (out′ : List ℕ) (m : ℕ) → Clipped out n (propertyText s a e b f v) out′ m → Writing s at old to out′ x m t
-    writing-more l t q out′ m u =
-        let g = propertyOn s a e b f v in
+        → (out′ : List ℕ) (m : ℕ) → Clipped out n (propertyText s a e b f v) out′ m → (j : ℕ) → j ≡ spaced s x → Writing s at old to out′ x j m t
+    writing-more l t q out′ m u j z =
+        let p = propertyOn s a e b f v in
         let ps = listAt property s x in
-        let k : knownTypes (listAt property s i) ≡ (listed ptypes (g .ptype) && knownTypes ps) = ap knownTypes more ∙ types-more g ps in
+        let k : knownTypes (listAt property s i) ≡ (listed ptypes (p .ptype) && knownTypes ps) = ap knownTypes more ∙ types-more p ps in
         record {
+          gap = z;
           left = left-step (w .left) split (clipped-wrote (writing-room l) u);
-          end = sym (end-more property s i property-within g x read) ∙ w .end;
-          types = rw q (and-assoc known (listed ptypes (g .ptype)) (knownTypes ps) ∙ rw k at (w .types));
+          end = sym (end-more property s i property-within p x read) ∙ w .end;
+          types = rw q (and-assoc known (listed ptypes (p .ptype)) (knownTypes ps) ∙ rw k at (w .types));
         }
 
-  written : nothing ≡ from property s i → PropertiesPut s at old to out (record { end = i; next = n; known = known })
+  written : nothing ≡ from property s i → PropertiesPut s at old to out (record { end = i; gap = g; next = n; known = known })
   unfolding propertyLines knownTypes
   written h =
       let l = list-none property s i h in
       record {
         end = sym (end-none property s i h) ∙ w .end;
+        gap = w .gap;
         known = sym (and-true known) ∙ rw l at (w .types);
         wrote = left-done (w .left) (rw l);
       }
 
   -- no property comes next, whether or not the result may end there
-  pub written-done : step.Done ≡ stepAt s i → PropertiesPut s at old to out (record { end = i; next = n; known = known })
-  written-done h = written (ap (propertyGot s) h ∙ step-got s i)
-
-  pub written-refused : step.Refused ≡ stepAt s i → PropertiesPut s at old to out (record { end = i; next = n; known = known })
-  written-refused h = written (ap (propertyGot s) h ∙ step-got s i)
+  pub written-all : (t : Step) → (tagOf the-type t ≡ 1) ⊎ (tagOf the-type t ≡ 2) → t ≡ stepFrom s i g
+      → PropertiesPut s at old to out (record { end = i; gap = g; next = n; known = known })
+  written-all step.Done k h = written (stepped step.Done h)
+  written-all step.Refused k h = written (stepped step.Refused h)
+  written-all (step.Property a e b f v x) k h = absurd (⊎-elim (λ e. omega (arith, e)) (λ e. omega (arith, e)) k)
 
 -- ==== reason and properties
 
@@ -215,6 +227,7 @@ pub details-put : (s : List ℕ) (i : ℕ) (old mid new : List ℕ) (to : ℕ) (
 details-put s i old mid new to r d p q =
     record {
       end = q .end ∙ ap (endAt property s) (p .end);
+      gap = q .gap;
       known = q .known ∙ ap (λ (k : ℕ). knownTypes (listAt property s k)) (p .end);
       wrote = wrote-then (p .wrote) (rw (p .end) at (q .wrote));
     }
@@ -225,10 +238,6 @@ details-put s i old mid new to r d p q =
 abbrev behindMark : Parser Result
 behindMark =
     _>>=_ methodspec (λ m. _>>=_ (optional reason) (λ r. _>>=_ (several property 0) (λ ps. give (record { methodspec = m; reason = r; properties = ps }))))
-
--- where the space behind a place ends
-abbrev spaced : List ℕ → ℕ → ℕ
-spaced s i = i + space (drop i s)
 
 module _ (s : List ℕ) (i : ℕ) where
   -- ";" does not come next behind the space
@@ -257,13 +266,17 @@ module _ (s : List ℕ) (i : ℕ) where
       (goes-on (byte 59) _ s b tt (b + 1) x (at-got (byte 59) s b tt 1 (b + 1) (byte-is 59 (drop b s) t) refl)
       (goes-on skip _ s (b + 1) tt a x (skipping-at space s (b + 1) a (q ∙ mark-size t)) h))
 
-module _ (s : List ℕ) (i a : ℕ) (q : a ≡ i + marked 59 (drop i s)) where
+-- the mark that was looked for at the place x, where the space behind the place i ends
+module _ (s : List ℕ) (i x : ℕ) (y : x ≡ spaced s i) (a : ℕ) (z : a ≡ markedFrom 59 s i x) where
+  q : a ≡ i + marked 59 (drop i s)
+  q = mark-found s i x 59 y a z
+
   -- where there is no mark there is no result
   pub no-mark : a ≡ i → nothing ≡ from resinfo s i
-  no-mark z = go (next 59 (drop (spaced s i) s)) refl
+  no-mark n = go (next 59 (drop (spaced s i) s)) refl
     where
       go : (t : Bool) → next 59 (drop (spaced s i) s) ≡ t → nothing ≡ from resinfo s i
-      go true t = absurd (omega (arith, mark-size s i t))
+      go true t = absurd (omega (arith, q, n, mark-size s i t))
       go false t = unmarked s i t .1
 
   at-mark : (a ≡ i → ⊥) → (x : Got Result) → x ≡ from behindMark s a → x ≡ from resinfo s i
@@ -271,7 +284,7 @@ module _ (s : List ℕ) (i a : ℕ) (q : a ≡ i + marked 59 (drop i s)) where
     where
       go : (t : Bool) → next 59 (drop (spaced s i) s) ≡ t → x ≡ from resinfo s i
       go true t = marks s i t a q x h
-      go false t = absurd (ne (omega (arith, unmarked s i t .0)))
+      go false t = absurd (ne (omega (arith, q, unmarked s i t .0)))
 
   module _ (ne : a ≡ i → ⊥) where
     -- nor where there is no method behind it
@@ -317,11 +330,12 @@ module _ (s : List ℕ) (i a : ℕ) (q : a ≡ i + marked 59 (drop i s)) where
         turn-rest = omega (arith, l, turn-long, turn-wrote .place)
 
         pub turn-read : (t : Bool) → t ≡ (o && tabled table (map lower (span s b e)) (map lower (span s f g))) → (new : List ℕ) (d : Details)
-            → DetailsPut s g mid n new d → (u : Bool) → u ≡ (t && d .known) → TurnRead s i old to new (d .end) (d .next) u
+            → DetailsPut s g mid n new d → (u : Bool) → u ≡ (t && d .known) → TurnRead s i old to new (d .end) (d .gap) (d .next) u
         turn-read t q new d p u r =
             record {
               result = whole;
               reads = ap (λ (z : ℕ). got whole z) (p .end) ∙ read-whole;
+              gap = p .gap;
               known = r ∙ (rw (q, p .known) (sym known-whole));
               wrote = rw lines-whole (wrote-then turn-wrote (p .wrote));
             }

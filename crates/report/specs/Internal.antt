@@ -15,6 +15,7 @@ use Rattle.lexis_rules.specs.Bytes.{inClass}
 use Rattle.authserv_rules.specs.Version.{stated}
 use Rattle.resinfo_rules.specs.Results.{Property, Result, orOne, reason, property}
 use Rattle.values.specs.Values.{span}
+use Rattle.resinfo.specs.Parts.{spaced}
 use Rattle.resinfo_rules.specs.Table.{knownTypes, understood}
 use Rattle.body.specs.Body.{Reading, unreadable, malformed, newer, noResult, results, resinfo, headed}
 use Rattle.body.specs.Report.{idLine, versionLine, noneLine, reasonLine, propertyLines, resultLines, lines, ignoredOf}
@@ -48,27 +49,31 @@ turnLines s at = elim (from resinfo s at) [ nothing ↦ [] | got r n ↦ resultL
 
 pub record PropertiesPut (s : List ℕ) (at : ℕ) (old : List ℕ) (to : ℕ) (new : List ℕ) (r : Details) : Type 0 where
   pub end : r .end ≡ endAt property s at
+  pub gap : r .gap ≡ spaced s (r .end)
   pub known : r .known ≡ knownTypes (listAt property s at)
   pub wrote : Wrote old to (propertyLines (listAt property s at)) new (r .next)
 
 pub record ReasonPut (s : List ℕ) (at : ℕ) (old : List ℕ) (to : ℕ) (new : List ℕ) (r : Stated) : Type 0 where
   pub end : r .end ≡ optionEnd reason s at
+  pub gap : r .gap ≡ spaced s (r .end)
   pub wrote : Wrote old to (reasonLine (optionAt reason s at)) new (r .next)
 
 pub record DetailsPut (s : List ℕ) (at : ℕ) (old : List ℕ) (to : ℕ) (new : List ℕ) (r : Details) : Type 0 where
   pub end : r .end ≡ endAt property s (optionEnd reason s at)
+  pub gap : r .gap ≡ spaced s (r .end)
   pub known : r .known ≡ knownTypes (propertiesAt s at)
   pub wrote : Wrote old to (detailLines s at) new (r .next)
 
 -- a result that was read, with its lines
-pub record TurnRead (s : List ℕ) (at : ℕ) (old : List ℕ) (to : ℕ) (new : List ℕ) (e n : ℕ) (u : Bool) : Type 0 where
+pub record TurnRead (s : List ℕ) (at : ℕ) (old : List ℕ) (to : ℕ) (new : List ℕ) (e g n : ℕ) (u : Bool) : Type 0 where
   pub result : Result
   pub reads : got result e ≡ from resinfo s at
+  pub gap : g ≡ spaced s e
   pub known : u ≡ understood result
   pub wrote : Wrote old to (resultLines result) new n
 
 abbrev pub TurnPut : List ℕ → ℕ → List ℕ → ℕ → List ℕ → Turn → Type 0
-TurnPut s at old to new (turn.Read e n u) = TurnRead s at old to new e n u
+TurnPut s at old to new (turn.Read e g n u) = TurnRead s at old to new e g n u
 TurnPut s at old to new turn.Missing = (nothing ≡ from resinfo s at) × (new ≡ old)
 
 -- ==== all results
@@ -81,6 +86,7 @@ pub record Fronted (old : List ℕ) (to : ℕ) (text new : List ℕ) : Type 0 wh
 
 pub record ResultsPut (s : List ℕ) (at : ℕ) (old : List ℕ) (to : ℕ) (new : List ℕ) (r : Results) : Type 0 where
   pub end : r .end ≡ endAt resinfo s at
+  pub gap : r .gap ≡ spaced s (r .end)
   pub ignored : r .ignored ≡ ignoredOf (listAt resinfo s at)
   pub next : r .next ≡ to + length (lines (listAt resinfo s at))
   pub bytes : Fronted old to (lines (listAt resinfo s at)) new

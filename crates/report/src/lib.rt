@@ -17,9 +17,11 @@ ghost use mathlib.Core.Path.{_≡_};
 ghost use mathlib.Core.List.{[]};
 ghost use Prim.Native.Nat.{_≤_, _^_};
 ghost use lib.ListN.{length, drop};
+ghost use Rattle.sequences.specs.Stored.{cap};
 ghost use Rattle.lexis_rules.specs.Limits.{byteLimit};
 ghost use Rattle.authserv.specs.Answers.{identifierAt};
 ghost use Rattle.resinfo_rules.specs.Results.{one};
+ghost use Rattle.resinfo.specs.Parts.{spaced};
 ghost use Rattle.body.specs.Body.{wordNone, payload, headed, reading};
 ghost use Rattle.body.specs.Report.{report};
 ghost use Rattle.body.specs.Answers.{answerOf, leaves};
@@ -38,11 +40,12 @@ fn refuse(number: u8, place: usize) -> Reported
     }
 }
 
-// Whether ";" and the word none, and after space the end, stand behind a place.
-fn says_none(s: &[u8], at: usize) -> bool
+// Whether ";" and the word none, and after space the end, stand behind a place, where the space behind it ends at `gap`.
+fn says_none(s: &[u8], at: usize, gap: usize) -> bool
+    requires { ⌜ gap ≡ spaced (now s) at ⌝ }
     ensures { λ r. ⌜ r ≡ succeeds wordNone (drop at (now (s .entry))) ⌝ }
 {
-    let a = resinfo::parts::mark_end(s, at, b';');
+    let a = resinfo::parts::mark_from(s, at, gap, b';');
     if a == at {
         return false;
     }
@@ -61,7 +64,8 @@ fn put_payload(s: &[u8], at: usize, out: &mut [u8], to: usize) -> Reported
     requires { ⌜ (length (now s) ≤ byteLimit) × (to ≤ 2 ^ 32) ⌝ }
     ensures { λ r. ⌜ Behind (payload [] (drop at (now (s .entry)))) (now (out .entry)) to (now (out .exit)) r ⌝ }
 {
-    if says_none(s, at) {
+    let gap = lexis::space_end(s, at);
+    if says_none(s, at, gap) {
         let n = report_lines::put_none(out, to);
         return Reported {
             number: Number::DONE,
@@ -70,11 +74,11 @@ fn put_payload(s: &[u8], at: usize, out: &mut [u8], to: usize) -> Reported
             ignored: 0,
         };
     }
-    let r = results::put_results(s, at, out, to);
+    let r = results::put_results(s, at, gap, out, to);
     if r.end == at {
         return refuse(Number::MALFORMED, 0);
     }
-    if lexis::space_end(s, r.end) < s.len() {
+    if r.gap < s.len() {
         return refuse(Number::MALFORMED, 0);
     }
     Reported {
@@ -173,4 +177,19 @@ pub fn report(body: &[u8], out: &mut [u8]) -> Reported
         return refuse(Number::UNREADABLE, 0);
     };
     put_measured(body, start, end, quoted, out)
+}
+
+// What `report` answers where there is the largest room: how many bytes the report of a body has, and how many results are ignored. The pass runs on an
+// empty buffer, so that it only measures.
+pub fn measure(body: &[u8]) -> Reported
+    ensures { λ r. ⌜ r ≡ answerOf (report (now (body .entry)) cap) ⌝ }
+{
+    if lexis::too_long(body) {
+        return refuse(Number::TOO_LONG, 0);
+    }
+    let Identifier::Readable { start, end, quoted } = authserv::identify(body) else {
+        return refuse(Number::UNREADABLE, 0);
+    };
+    let mut none = [0u8; 1];
+    put_body(body, start, end, quoted, &mut none[..0])
 }

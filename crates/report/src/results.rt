@@ -2,6 +2,9 @@
 // ignored, the next ones are written over them.
 //
 // So where there is more room than the lines that stay take, something of an ignored result may be left past their end.
+//
+// The space behind each part is read once: with the place where a part ends (`at`, `end`) goes the place where the space behind it ends
+// (`gap`).
 use resinfo::Step;
 use resinfo::parts::Method;
 use resinfo::parts::Reason;
@@ -15,13 +18,16 @@ ghost use Rattle.lexis_rules.specs.Limits.{byteLimit};
 ghost use Rattle.lexis_rules.specs.Bytes.{lower};
 ghost use Rattle.resinfo_rules.specs.Results.{reason, property};
 ghost use Rattle.resinfo_rules.specs.Table.{listed, tabled, table, ptypes};
+ghost use Rattle.resinfo.specs.Parts.{spaced};
 ghost use Rattle.body.specs.Body.{resinfo};
 ghost use Rattle.body.specs.Report.{reasonLine, propertyLines, lines};
 ghost use Rattle.report.specs.Internal.{optionAt, detailLines, turnLines, ReasonPut, PropertiesPut, DetailsPut, TurnPut, ResultsPut};
 
-// What was read and written: the place after it in the body and the place after its text, and whether all of its ptypes are known.
+// What was read and written: the place after it in the body, with its space, and the place after its text, and whether all of its ptypes
+// are known.
 struct Details {
     end: usize,
+    gap: usize,
     next: usize,
     known: bool,
 }
@@ -47,57 +53,51 @@ fn knows_method(one: bool, method: &[u8], result: &[u8]) -> bool
 }
 
 // The properties behind a method or a reason that ends at a place, with their lines.
-fn put_properties(s: &[u8], at: usize, out: &mut [u8], to: usize) -> Details
-    requires { ⌜ to + length (propertyLines (listAt property (now s) at)) < 2 ^ 64 ⌝ }
+fn put_properties(s: &[u8], at: usize, gap: usize, out: &mut [u8], to: usize) -> Details
+    requires { ⌜ (gap ≡ spaced (now s) at) × (to + length (propertyLines (listAt property (now s) at)) < 2 ^ 64) ⌝ }
     ensures { λ r. ⌜ PropertiesPut (now (s .entry)) at (now (out .entry)) to (now (out .exit)) r ⌝ }
 {
     let mut i = at;
+    let mut a = gap;
     let mut n = to;
     let mut known = true;
     loop {
-        match resinfo::step_at(s, i) {
-            Step::Property {
-                type_start,
-                type_end,
-                name_start,
-                name_end,
-                value,
-                end,
-            } => {
-                known = knows_ptype(known, &s[type_start..type_end]);
-                n = report_lines::put_property(
-                    s,
-                    type_start,
-                    type_end,
-                    name_start,
-                    name_end,
-                    value,
-                    out,
-                    n,
-                );
-                i = end;
-            }
-            Step::Done => {
-                return Details {
-                    end: i,
-                    next: n,
-                    known,
-                };
-            }
-            Step::Refused => {
-                return Details {
-                    end: i,
-                    next: n,
-                    known,
-                };
-            }
-        }
+        let Step::Property {
+            type_start,
+            type_end,
+            name_start,
+            name_end,
+            value,
+            end,
+        } = resinfo::step_from(s, i, a)
+        else {
+            return Details {
+                end: i,
+                gap: a,
+                next: n,
+                known,
+            };
+        };
+        known = knows_ptype(known, &s[type_start..type_end]);
+        n = report_lines::put_property(
+            s,
+            type_start,
+            type_end,
+            name_start,
+            name_end,
+            value,
+            out,
+            n,
+        );
+        a = lexis::space_end(s, end);
+        i = end;
     }
 }
 
-// The places after a reason and after its line.
+// The places after a reason, with its space, and after its line.
 struct Stated {
     end: usize,
+    gap: usize,
     next: usize,
 }
 
@@ -106,12 +106,21 @@ fn put_reason(s: &[u8], at: usize, out: &mut [u8], to: usize) -> Stated
     requires { ⌜ to + length (reasonLine (optionAt reason (now s) at)) < 2 ^ 64 ⌝ }
     ensures { λ r. ⌜ ReasonPut (now (s .entry)) at (now (out .entry)) to (now (out .exit)) r ⌝ }
 {
-    match resinfo::parts::reason_at(s, at) {
+    let gap = lexis::space_end(s, at);
+    match resinfo::parts::reason_from(s, at, gap) {
         Reason::Stated { start, end, quoted } => {
             let n = report_lines::put_reason(s, start, end, quoted, out, to);
-            Stated { end, next: n }
+            Stated {
+                end,
+                gap: lexis::space_end(s, end),
+                next: n,
+            }
         }
-        Reason::Absent => Stated { end: at, next: to },
+        Reason::Absent => Stated {
+            end: at,
+            gap,
+            next: to,
+        },
     }
 }
 
@@ -121,13 +130,15 @@ fn put_details(s: &[u8], at: usize, out: &mut [u8], to: usize) -> Details
     ensures { λ r. ⌜ DetailsPut (now (s .entry)) at (now (out .entry)) to (now (out .exit)) r ⌝ }
 {
     let r = put_reason(s, at, out, to);
-    put_properties(s, r.end, out, r.next)
+    put_properties(s, r.end, r.gap, out, r.next)
 }
 
-// A result that was read, with the space before it: the place after it, the place after its lines, and whether it is understood.
+// A result that was read, with the space before it: the place after it, with its space, the place after its lines, and whether it is
+// understood.
 enum Turn {
     Read {
         end: usize,
+        gap: usize,
         next: usize,
         understood: bool,
     },
@@ -135,11 +146,11 @@ enum Turn {
 }
 
 // The next result behind a place, with its lines.
-fn put_result(s: &[u8], at: usize, out: &mut [u8], to: usize) -> Turn
-    requires { ⌜ to + length (turnLines (now s) at) < 2 ^ 64 ⌝ }
+fn put_result(s: &[u8], at: usize, gap: usize, out: &mut [u8], to: usize) -> Turn
+    requires { ⌜ (gap ≡ spaced (now s) at) × (to + length (turnLines (now s) at) < 2 ^ 64) ⌝ }
     ensures { λ r. ⌜ TurnPut (now (s .entry)) at (now (out .entry)) to (now (out .exit)) r ⌝ }
 {
-    let a = resinfo::parts::mark_end(s, at, b';');
+    let a = resinfo::parts::mark_from(s, at, gap, b';');
     if a == at {
         return Turn::Missing;
     }
@@ -156,6 +167,7 @@ fn put_result(s: &[u8], at: usize, out: &mut [u8], to: usize) -> Turn
             let d = put_details(s, result_end, out, n);
             Turn::Read {
                 end: d.end,
+                gap: d.gap,
                 next: d.next,
                 understood: both(known, d.known),
             }
@@ -173,39 +185,43 @@ fn both(a: bool, b: bool) -> bool
     false
 }
 
-// All results behind a place: the place after the last of them, the place after the lines of those that are understood, and how many are
-// not.
+// All results behind a place: the place after the last of them, with its space, the place after the lines of those that are understood,
+// and how many are not.
 pub(crate) struct Results {
     pub(crate) end: usize,
+    pub(crate) gap: usize,
     pub(crate) next: usize,
     pub(crate) ignored: usize,
 }
 
-pub(crate) fn put_results(s: &[u8], at: usize, out: &mut [u8], to: usize) -> Results
-    requires { ⌜ (length (now s) ≤ byteLimit) × (to + length (lines (listAt resinfo (now s) at)) < 2 ^ 63) ⌝ }
+pub(crate) fn put_results(s: &[u8], at: usize, gap: usize, out: &mut [u8], to: usize) -> Results
+    requires { ⌜ (gap ≡ spaced (now s) at) × ((length (now s) ≤ byteLimit) × (to + length (lines (listAt resinfo (now s) at)) < 2 ^ 63)) ⌝ }
     ensures { λ r. ⌜ ResultsPut (now (s .entry)) at (now (out .entry)) to (now (out .exit)) r ⌝ }
 {
     let mut i = at;
+    let mut a = gap;
     let mut n = to;
     let mut ignored: usize = 0;
     loop {
-        match put_result(s, i, out, n) {
+        match put_result(s, i, a, out, n) {
             Turn::Read {
                 end,
+                gap: behind,
                 next,
                 understood,
             } => {
+                i = end;
+                a = behind;
                 if understood {
                     n = next;
-                    i = end;
                 } else {
                     ignored += 1;
-                    i = end;
                 }
             }
             Turn::Missing => {
                 return Results {
                     end: i,
+                    gap: a,
                     next: n,
                     ignored,
                 };

@@ -22,7 +22,7 @@ use Rattle.body.specs.Report.{escape, line, idLine, versionLine, noneLine, reas
 use Rattle.report_lines.specs.declared.Parts.{Parts}
 use Rattle.report_lines.specs.Lines.{valueColumns}
 use Rattle.report_lines.specs.Internal.{partsOf, domainText}
-use Rattle.report_lines.proofs.Escapes.{clipped-two, clipped-three, clipped-four, escape-none, escape-sign, escape-append}
+use Rattle.escaping.proofs.Escapes.{clipped-two, clipped-three, clipped-four, escape-none, escape-sign, escape-append}
 
 -- ==== the bytes from a place up to another, as far as they stand inside
 

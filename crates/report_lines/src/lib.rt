@@ -5,19 +5,14 @@
 // writer is handed a buffer and a place in it, any place (`put_id` writes from the start). It stores as much of the line as there is room
 // for from there on, changes no other byte, and returns the place after the whole line, at most the largest place, which no buffer reaches.
 // Run on an empty buffer it only measures.
-use lexis_rules::Class;
 use values::Value;
 ghost use mathlib.Core.Path.{_≡_};
-ghost use mathlib.Core.List.{[], _∷_, map};
-ghost use Prim.Native.Nat.{_+_, _%_};
-ghost use lib.ListN.{drop};
+ghost use mathlib.Core.List.{_∷_, map};
 ghost use Rattle.sequences.specs.Stored.{Clipped};
-ghost use Rattle.reading.specs.Readers.{run};
 ghost use Rattle.lexis_rules.specs.Bytes.{lower};
-ghost use Rattle.lexis_rules.specs.Words.{quotedText};
 ghost use Rattle.authserv.specs.Answers.{textOf};
 ghost use Rattle.values.specs.Values.{span, valueOf};
-ghost use Rattle.body.specs.Report.{hexDigit, plain, escape, idLine, versionLine, noneLine};
+ghost use Rattle.body.specs.Report.{escape, idLine, versionLine, noneLine};
 ghost use Rattle.report_lines.specs.Internal.{partsOf, domainText};
 ghost use Rattle.report_lines.specs.Lines.{valueColumns, methodText, reasonText, propertyText};
 
@@ -40,98 +35,14 @@ fn part(s: &[u8], a: usize, e: usize) -> &[u8]
     &s[..0]
 }
 
-// The upper-case hex digit of the lower half of a byte.
-fn hex_digit(b: u8) -> u8
-    ensures { λ r. ⌜ r ≡ hexDigit (b % 16) ⌝ }
-{
-    let n = b % 16;
-    if n < 10 {
-        return b'0' + n;
-    }
-    b'A' + (n - 10)
-}
-
-// Whether a byte stands for itself in a text.
-fn is_plain(b: u8) -> bool
-    ensures { λ r. ⌜ r ≡ plain b ⌝ }
-{
-    if b == b'%' {
-        return false;
-    }
-    lexis::in_class(Class::Visible, b)
-}
-
-// A byte, or the percent sign and the two digits that stand for it.
-fn put_escape(b: u8, out: &mut [u8], to: usize) -> usize
-    ensures { λ r. ⌜ Clipped (now (out .entry)) to (escape (b ∷ [])) (now (out .exit)) r ⌝ }
-{
-    if is_plain(b) {
-        return texts::put_byte(b, out, to);
-    }
-    let n = texts::put_byte(b'%', out, to);
-    let m = texts::put_byte(hex_digit(b / 16), out, n);
-    texts::put_byte(hex_digit(b), out, m)
-}
-
-// The end of the bytes that stand for themselves.
-fn plain_end(text: &[u8], at: usize) -> usize
-    ensures { λ r. ⌜ r ≡ at + run plain (drop at (now (text .entry))) ⌝ }
-{
-    let mut i = at;
-    while i < text.len() {
-        if is_plain(text[i]) {
-            i += 1;
-        } else {
-            return i;
-        }
-    }
-    i
-}
-
-// A text: bytes that stand for themselves at once, the others one at a time.
-fn put_escaped(text: &[u8], out: &mut [u8], to: usize) -> usize
-    ensures { λ r. ⌜ Clipped (now (out .entry)) to (escape (now (text .entry))) (now (out .exit)) r ⌝ }
-{
-    let mut i: usize = 0;
-    let mut n = to;
-    loop {
-        let e = plain_end(text, i);
-        n = texts::put_part(&text[i..e], out, n);
-        if e == text.len() {
-            return n;
-        }
-        n = put_escape(text[e], out, n);
-        i = e + 1;
-    }
-}
-
-// The text of the quoted string that starts at a place.
-fn put_quoted(s: &[u8], at: usize, out: &mut [u8], to: usize) -> usize
-    ensures { λ r. ⌜ Clipped (now (out .entry)) to (escape (quotedText (drop at (now (s .entry))))) (now (out .exit)) r ⌝ }
-{
-    if at >= s.len() {
-        return to;
-    }
-    let mut i = at + 1;
-    let mut n = to;
-    loop {
-        let k = lexis::item_at(s, i, Class::Quoted);
-        if k == 0 {
-            return n;
-        }
-        n = put_escape(reading::byte(s, i, k - 1), out, n);
-        i += k;
-    }
-}
-
 // The text of a value from a up to e, quoted or not.
 fn put_value_text(s: &[u8], a: usize, e: usize, quoted: bool, out: &mut [u8], to: usize) -> usize
     ensures { λ r. ⌜ Clipped (now (out .entry)) to (escape (textOf (now (s .entry)) a e quoted)) (now (out .exit)) r ⌝ }
 {
     if quoted {
-        return put_quoted(s, a, out, to);
+        return escaping::put_quoted(s, a, out, to);
     }
-    put_escaped(part(s, a, e), out, to)
+    escaping::put_escaped(part(s, a, e), out, to)
 }
 
 // A tab and the keyword from a up to e in lower case.
@@ -209,7 +120,7 @@ fn put_domain(s: &[u8], signed: bool, sign: usize, e: usize, out: &mut [u8], to:
     if signed {
         let n = texts::put_byte(b'@', out, to);
         if sign < e {
-            return put_escaped(part(s, sign + 1, e), out, n);
+            return escaping::put_escaped(part(s, sign + 1, e), out, n);
         }
         return n;
     }

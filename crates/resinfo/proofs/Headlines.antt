@@ -1,4 +1,5 @@
--- What the code finds by places is what the grammar's parsers yield there, with its texts: one theorem for each reader. Assumes nothing.
+-- What the code finds by places is what the grammar's parsers yield there, with its texts: one theorem for each reader. Those that are
+-- handed where a space ends are asked with the place where it does. Assumes nothing.
 use Prim.Native.Nat.{ℕ}
 use mathlib.Core.Path.{_≡_}
 use mathlib.Core.Bool.{true}
@@ -18,15 +19,15 @@ use Rattle.resinfo.proofs.Steps as steps
 pub method-got : (s : List ℕ) (at : ℕ) → methodGot s (methodAt s at) ≡ told (from methodspec s at)
 method-got = methods.method-got
 
--- `parts::reason_at`: a reason
+-- `parts::reason_from`: a reason
 pub reason-got : (s : List ℕ) (at : ℕ) → reasonGot s (reasonAt s at) ≡ from reason s at
 reason-got = reasons.reason-got
 
--- `parts::label_at`: ptype and property
+-- `parts::label_from`: ptype and property
 pub label-got : (s : List ℕ) (at : ℕ) → labelGot s (labelAt s at) ≡ from names s at
 label-got = labels.label-got
 
--- `step_at`: a whole property
+-- `step_from`: a whole property
 pub step-got : (s : List ℕ) (at : ℕ) → propertyGot s (stepAt s at) ≡ from property s at
 step-got = steps.step-got
 

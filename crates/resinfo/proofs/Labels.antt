@@ -14,49 +14,49 @@ use Rattle.lexis_rules.specs.Words.{keywordText, gap, readKeyword}
 use Rattle.resinfo.specs.declared.parts.Label.{Label}
 use Rattle.resinfo.specs.declared.parts.Label.the-variants.{Read, Missing}
 use Rattle.resinfo_rules.specs.Results.{Property, mark, propertyValue, property}
-use Rattle.resinfo.specs.Parts.{marked, behind, Names, names, namesAt, labelAt, labelGot}
+use Rattle.resinfo.specs.Parts.{marked, behind, Names, names, namesAt, labelFrom, labelAt, labelGot}
 use Rattle.values.specs.Values.{span}
-use Rattle.resinfo.proofs.Marks.{behind-none, behind-some, through, gap-reads, mark-reads, keyword-reads}
+use Rattle.resinfo.proofs.Marks.{past-none, past-some, behind-none, behind-some, through, gap-reads, mark-reads, keyword-reads}
 
 -- ==== by the tests of the code
 
-module _ (s : List ℕ) (at a : ℕ) (q : a ≡ at + space (drop at s)) where
-  pub label-no-space : a ≡ at → Missing ≡ labelAt s at
-  unfolding labelAt
-  label-no-space z = sym (behind-none space s at a q Missing _ z)
+module _ (s : List ℕ) (at a : ℕ) where
+  pub label-no-space : a ≡ at → Missing ≡ labelFrom s at a
+  unfolding labelFrom
+  label-no-space z = sym (past-none at a Missing _ z)
 
   module _ (na : a ≡ at → ⊥) (e : ℕ) (p : e ≡ a + keyword (drop a s)) where
-    from-type : labelAt s at ≡ behind keyword s a Missing (λ e. namesAt s a e)
-    unfolding labelAt
-    from-type = behind-some space s at a q Missing _ na
+    from-type : labelFrom s at a ≡ behind keyword s a Missing (λ e. namesAt s a e)
+    unfolding labelFrom
+    from-type = past-some at a Missing _ na
 
-    pub label-no-type : e ≡ a → Missing ≡ labelAt s at
+    pub label-no-type : e ≡ a → Missing ≡ labelFrom s at a
     label-no-type z = sym (from-type ∙ behind-none keyword s a e p Missing _ z)
 
     module _ (ne : e ≡ a → ⊥) (b : ℕ) (m : b ≡ e + marked 46 (drop e s)) where
-      from-dot : labelAt s at ≡ namesAt s a e
+      from-dot : labelFrom s at a ≡ namesAt s a e
       from-dot = from-type ∙ behind-some keyword s a e p Missing _ ne
 
-      pub label-no-dot : b ≡ e → Missing ≡ labelAt s at
+      pub label-no-dot : b ≡ e → Missing ≡ labelFrom s at a
       unfolding namesAt
       label-no-dot z = sym (from-dot ∙ behind-none (marked 46) s e b m Missing _ z)
 
       module _ (nb : b ≡ e → ⊥) (f : ℕ) (w : f ≡ b + keyword (drop b s)) where
-        from-name : labelAt s at ≡ behind keyword s b Missing (λ f. behind (marked 61) s f Missing (λ v. Read a e b f v))
+        from-name : labelFrom s at a ≡ behind keyword s b Missing (λ f. behind (marked 61) s f Missing (λ v. Read a e b f v))
         unfolding namesAt
         from-name = from-dot ∙ behind-some (marked 46) s e b m Missing _ nb
 
-        pub label-no-name : f ≡ b → Missing ≡ labelAt s at
+        pub label-no-name : f ≡ b → Missing ≡ labelFrom s at a
         label-no-name z = sym (from-name ∙ behind-none keyword s b f w Missing _ z)
 
         module _ (nf : f ≡ b → ⊥) (v : ℕ) (u : v ≡ f + marked 61 (drop f s)) where
-          from-equals : labelAt s at ≡ behind (marked 61) s f Missing (λ v. Read a e b f v)
+          from-equals : labelFrom s at a ≡ behind (marked 61) s f Missing (λ v. Read a e b f v)
           from-equals = from-name ∙ behind-some keyword s b f w Missing _ nf
 
-          pub label-no-equals : v ≡ f → Missing ≡ labelAt s at
+          pub label-no-equals : v ≡ f → Missing ≡ labelFrom s at a
           label-no-equals z = sym (from-equals ∙ behind-none (marked 61) s f v u Missing _ z)
 
-          pub label-read : (v ≡ f → ⊥) → Read a e b f v ≡ labelAt s at
+          pub label-read : (v ≡ f → ⊥) → Read a e b f v ≡ labelFrom s at a
           label-read nv = sym (from-equals ∙ behind-some (marked 61) s f v u Missing _ nv)
 
 -- ==== what the parser yields
@@ -67,7 +67,7 @@ Stands s m y = labelGot s m ≡ y
 
 -- what the code finds is what the parser yields
 pub label-got : (s : List ℕ) (at : ℕ) → labelGot s (labelAt s at) ≡ from names s at
-unfolding names labelAt namesAt
+unfolding names labelFrom namesAt
 label-got s at =
     through (Stands s) space gap s at _ (gap-reads s at) Missing _ _ refl
     (λ a. through (Stands s) keyword readKeyword s a _ (keyword-reads s a) Missing _ _ refl

@@ -6,6 +6,7 @@ use mathlib.Core.Path.{_≡_, refl, sym, ap, _∙_}
 use mathlib.Core.Bool.{Bool, true, false}
 use mathlib.Core.List.{List, [], _∷_}
 use lib.Dec.{eqb}
+use borrow.Author.Tests.{eq-eqb, ne-eqb}
 use lib.ListN.{length, getD, drop, length-drop, drop-of-length-le}
 use lib.Seq.{drop-cons, drop-drop}
 use mir.Syntax.{w64}
@@ -20,7 +21,7 @@ use Rattle.reading.proofs.Places.{goes-on, stops, gives, text-at, text-none, pa
 use Rattle.lexis_rules.specs.Pieces.{space, keyword}
 use Rattle.lexis_rules.specs.Words.{keywordText, skip, gap, readKeyword}
 use Rattle.resinfo_rules.specs.Results.{mark, next}
-use Rattle.resinfo.specs.Parts.{marked, behind}
+use Rattle.resinfo.specs.Parts.{spaced, marked, markedFrom, past, behind}
 use Rattle.values.specs.Values.{span}
 
 -- ==== the byte that comes next
@@ -79,34 +80,69 @@ module _ (c : ℕ) (xs : List ℕ) where
 pub mark-fits : (s : List ℕ) (a c : ℕ) (r : Bool) → r ≡ next c (drop a s) → r ≡ true → length s < 2 ^ 64 → machine.Fits w64 (a + 1)
 mark-fits s a c r h t l = omega (arith, next-inside c s a (sym h ∙ t))
 
-module _ (s : List ℕ) (at a c : ℕ) (q : a ≡ at + space (drop at s)) (r : Bool) (h : r ≡ next c (drop a s)) where
-  met : next c (drop (space (drop at s)) (drop at s)) ≡ r
-  met = rw (drop-drop (space (drop at s)) at s, ← q) (sym h)
+module _ (s : List ℕ) (at a c : ℕ) where
+  marked-there : next c (drop a s) ≡ true → markedFrom c s at a ≡ spaced s (a + 1)
+  unfolding markedFrom
+  marked-there h = rw (markedFrom, h)
 
-  pub mark-there : r ≡ true → (e : ℕ) → e ≡ a + 1 + space (drop (a + 1) s) → e ≡ at + marked c (drop at s)
-  mark-there t e p =
-      let n = space (drop at s) in
-      let j : at + (n + 1) ≡ a + 1 = omega arith in
-      let d : space (drop (n + 1) (drop at s)) ≡ space (drop (a + 1) s) = rw (drop-drop (n + 1) at s, j) in
-      omega (arith, marked-yes c (drop at s) (met ∙ t))
+  marked-missing : next c (drop a s) ≡ false → markedFrom c s at a ≡ at
+  unfolding markedFrom
+  marked-missing h = rw (markedFrom, h)
 
-  pub mark-missing : r ≡ false → at ≡ at + marked c (drop at s)
-  mark-missing t = omega (arith, marked-no c (drop at s) (met ∙ t))
+  module _ (r : Bool) (h : r ≡ next c (drop a s)) where
+    pub mark-there : r ≡ true → (e : ℕ) → e ≡ spaced s (a + 1) → e ≡ markedFrom c s at a
+    mark-there t e p = p ∙ sym (marked-there (sym h ∙ t))
+
+    pub mark-missing : r ≡ false → at ≡ markedFrom c s at a
+    mark-missing t = sym (marked-missing (sym h ∙ t))
+
+  -- behind the space that is what the reader takes
+  pub marked-from : a ≡ spaced s at → markedFrom c s at a ≡ at + marked c (drop at s)
+  marked-from q = go (next c (drop a s)) refl
+    where
+      met : (t : Bool) → next c (drop a s) ≡ t → next c (drop (space (drop at s)) (drop at s)) ≡ t
+      met t h = rw (drop-drop (space (drop at s)) at s, ← q) h
+
+      go : (t : Bool) → next c (drop a s) ≡ t → markedFrom c s at a ≡ at + marked c (drop at s)
+      go true h =
+          let n = space (drop at s) in
+          let j : at + (n + 1) ≡ a + 1 = omega arith in
+          let d : space (drop (n + 1) (drop at s)) ≡ space (drop (a + 1) s) = rw (drop-drop (n + 1) at s, j) in
+          omega (arith, marked-there h, marked-yes c (drop at s) (met true h))
+      go false h = omega (arith, marked-missing h, marked-no c (drop at s) (met false h))
+
+  -- so it is found as the reader finds it, where the space is known to end there
+  pub mark-found : a ≡ spaced s at → (e : ℕ) → e ≡ markedFrom c s at a → e ≡ at + marked c (drop at s)
+  mark-found q e p = p ∙ marked-from q
 
 -- ==== the place behind
 
+module _ {A : Type 0} (at e : ℕ) (z : A) (k : ℕ → A) where
+  pub past-none : e ≡ at → past at e z k ≡ z
+  unfolding past
+  past-none i = rw (past, eq-eqb e at i)
+
+  pub past-some : (e ≡ at → ⊥) → past at e z k ≡ k e
+  unfolding past
+  past-some ne = rw (past, ne-eqb e at ne)
+
 module _ {A : Type 0} (f : Reader) (s : List ℕ) (at e : ℕ) (q : e ≡ at + f (drop at s)) (z : A) (k : ℕ → A) where
   pub behind-none : e ≡ at → behind f s at z k ≡ z
-  unfolding behind
-  behind-none i = let n : f (drop at s) ≡ 0 = omega arith in rw (behind, n)
+  behind-none i = rw (← q) (past-none at e z k i)
 
   pub behind-some : (e ≡ at → ⊥) → behind f s at z k ≡ k e
-  unfolding behind
-  behind-some ne = go (f (drop at s)) refl
-    where
-      go : (n : ℕ) → f (drop at s) ≡ n → behind f s at z k ≡ k e
-      go zero i = absurd (ne (omega arith))
-      go (suc n) i = let j : e ≡ at + suc n = omega arith in rw (behind, i, j)
+  behind-some ne = rw (← q) (past-some at e z k ne)
+
+-- what holds where nothing is taken, and behind what is taken, holds
+pub all-behind : {A : Type 0} (P : A → Type 0) (f : Reader) (s : List ℕ) (at : ℕ) (z : A) (k : ℕ → A) → P z
+    → ((e : ℕ) → e ≡ at + f (drop at s) → at < e → P (k e)) → P (behind f s at z k)
+all-behind P f s at z k none some = go (f (drop at s)) refl
+  where
+    go : (n : ℕ) → f (drop at s) ≡ n → P (behind f s at z k)
+    go zero i = let b : behind f s at z k ≡ z = behind-none f s at at (omega arith) z k refl in rw b none
+    go (suc n) i =
+        let b : behind f s at z k ≡ k (at + suc n) = behind-some f s at (at + suc n) (omega arith) z k (λ j. omega arith) in
+        rw b (some (at + suc n) (omega arith) (omega arith))
 
 -- ==== a reader and its parser
 

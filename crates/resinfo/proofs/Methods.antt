@@ -29,21 +29,28 @@ use Rattle.resinfo.specs.declared.parts.MethodVersion.{MethodVersion}
 use Rattle.resinfo.specs.declared.parts.Method.{Method}
 use Rattle.resinfo.specs.declared.parts.Method.the-variants.{Read, Missing}
 use Rattle.resinfo_rules.specs.Results.{Methodspec, mark, orOne, methodVersion, methodspec}
-use Rattle.resinfo.specs.Parts.{marked, behind, unversioned, methodVersionAt, resultAt, methodAt, Told, told, methodGot}
+use Rattle.resinfo.specs.Parts.{spaced, marked, markedFrom, behind, versionTo, unversioned, methodVersionAt, resultAt, methodAt, Told, told, methodGot}
 use Rattle.values.specs.Values.{span}
-use Rattle.resinfo.proofs.Marks.{behind-none, behind-some, through, mark-reads, keyword-reads}
+use Rattle.resinfo.proofs.Marks.{mark-found, behind-none, behind-some, all-behind, through, mark-reads, keyword-reads}
 
 -- ==== the version, by the tests of the code
 
-module _ (s : List ℕ) (at a : ℕ) (q : a ≡ at + marked 47 (drop at s)) where
-  pub version-no-slash : a ≡ at → _≡_ {A = MethodVersion} (record { end = at; one = true }) (methodVersionAt s at)
+module _ (s : List ℕ) (at g : ℕ) (y : g ≡ spaced s at) (a : ℕ) (x : a ≡ markedFrom 47 s at g) where
+  q : a ≡ at + marked 47 (drop at s)
+  q = mark-found s at g 47 y a x
+
+  -- nothing is taken, and the space behind the method is known to end at g
+  absent : record { end = at; gap = g; one = true } ≡ unversioned s at
+  absent = rw y
+
+  pub version-no-slash : a ≡ at → _≡_ {A = MethodVersion} (record { end = at; gap = g; one = true }) (methodVersionAt s at)
   unfolding methodVersionAt
-  version-no-slash z = sym (behind-none (marked 47) s at a q (unversioned at) _ z)
+  version-no-slash z = absent ∙ sym (behind-none (marked 47) s at a q (unversioned s at) _ z)
 
   module _ (ne : a ≡ at → ⊥) (d : Digits) (h : d ≡ digitsAt s a) where
-    from-digits : methodVersionAt s at ≡ behind digits s a (unversioned at) (λ e. record { end = e; one = isOne (drop a s) })
+    from-digits : methodVersionAt s at ≡ behind digits s a (unversioned s at) (λ e. versionTo s e (isOne (drop a s)))
     unfolding methodVersionAt
-    from-digits = behind-some (marked 47) s at a q (unversioned at) _ ne
+    from-digits = behind-some (marked 47) s at a q (unversioned s at) _ ne
 
     ends : d .end ≡ a + digits (drop a s)
     unfolding digitsAt
@@ -53,11 +60,21 @@ module _ (s : List ℕ) (at a : ℕ) (q : a ≡ at + marked 47 (drop at s)) wher
     unfolding digitsAt
     ones = rw h
 
-    pub version-no-digits : d .end ≡ a → _≡_ {A = MethodVersion} (record { end = at; one = true }) (methodVersionAt s at)
-    version-no-digits z = sym (from-digits ∙ behind-none digits s a (d .end) ends (unversioned at) _ z)
+    pub version-no-digits : d .end ≡ a → _≡_ {A = MethodVersion} (record { end = at; gap = g; one = true }) (methodVersionAt s at)
+    version-no-digits z = absent ∙ sym (from-digits ∙ behind-none digits s a (d .end) ends (unversioned s at) _ z)
 
-    pub version-stated : (d .end ≡ a → ⊥) → _≡_ {A = MethodVersion} (record { end = d .end; one = d .one }) (methodVersionAt s at)
-    version-stated nd = rw ones (sym (from-digits ∙ behind-some digits s a (d .end) ends (unversioned at) _ nd))
+    pub version-stated : (d .end ≡ a → ⊥) → (w : ℕ) → w ≡ spaced s (d .end)
+        → _≡_ {A = MethodVersion} (record { end = d .end; gap = w; one = d .one }) (methodVersionAt s at)
+    version-stated nd w i = rw (i, ones) (sym (from-digits ∙ behind-some digits s a (d .end) ends (unversioned s at) _ nd))
+
+-- the space behind a version ends where it says
+version-gap : (s : List ℕ) (at : ℕ) → methodVersionAt s at .gap ≡ spaced s (methodVersionAt s at .end)
+unfolding methodVersionAt
+version-gap s at =
+    all-behind Spaced (marked 47) s at (unversioned s at) _ refl (λ a q l. all-behind Spaced digits s a (unversioned s at) _ refl (λ e p m. refl))
+  where
+    Spaced : MethodVersion → Type 0
+    Spaced v = v .gap ≡ spaced s (v .end)
 
 -- ==== method and result, by the tests of the code
 
@@ -66,7 +83,10 @@ module _ (s : List ℕ) (at e : ℕ) (q : e ≡ at + keyword (drop at s)) where
   unfolding methodAt
   method-no-name z = sym (behind-none keyword s at e q Missing _ z)
 
-  module _ (ne : e ≡ at → ⊥) (v : MethodVersion) (h : v ≡ methodVersionAt s e) (f : ℕ) (p : f ≡ v .end + marked 61 (drop (v .end) s)) where
+  module _ (ne : e ≡ at → ⊥) (v : MethodVersion) (h : v ≡ methodVersionAt s e) (f : ℕ) (x : f ≡ markedFrom 61 s (v .end) (v .gap)) where
+    p : f ≡ v .end + marked 61 (drop (v .end) s)
+    p = mark-found s (v .end) (v .gap) 61 (rw h (version-gap s e)) f x
+
     from-equals : methodAt s at ≡ resultAt s at e v
     unfolding methodAt
     from-equals = behind-some keyword s at e q Missing _ ne ∙ ap (resultAt s at e) (sym h)
@@ -121,7 +141,7 @@ record Versioned (s : List ℕ) (at : ℕ) (v : MethodVersion) : Type 0 where
   is : same (orOne stated) (bytes "1") ≡ v .one
 
 module _ (s : List ℕ) (at : ℕ) where
-  unstated : nothing ≡ from methodVersion s at → Versioned s at (unversioned at)
+  unstated : nothing ≡ from methodVersion s at → Versioned s at (unversioned s at)
   unfolding orOne same
   unstated h = record { stated = none; reads = none-there methodVersion s at h; is = refl }
 
@@ -134,7 +154,7 @@ module _ (s : List ℕ) (at : ℕ) where
           let a = at + suc m in
           let ne : a ≡ at → ⊥ = λ i. omega arith in
           let r : nothing ≡ from readDigits s a = stops (text digits) _ s a (text-none digits s a a (omega arith) refl) in
-          let v : methodVersionAt s at ≡ unversioned at = behind-some (marked 47) s at a (omega arith) (unversioned at) _ ne ∙ behind-none digits s a a (omega arith) (unversioned at) _ refl in
+          let v : methodVersionAt s at ≡ unversioned s at = behind-some (marked 47) s at a (omega arith) (unversioned s at) _ ne ∙ behind-none digits s a a (omega arith) (unversioned s at) _ refl in
           rw v (unstated (goes-on (mark 47) _ s at tt a nothing (mark-reads s at 47 .there a (omega arith) ne) r))
       run m (suc n) z d =
           let a = at + suc m in
@@ -142,7 +162,7 @@ module _ (s : List ℕ) (at : ℕ) where
           let ne : a ≡ at → ⊥ = λ i. omega arith in
           let nd : e ≡ a → ⊥ = λ i. omega arith in
           let j : e - a ≡ suc n = omega arith in
-          let v : methodVersionAt s at ≡ record { end = e; one = isOne (drop a s) } = behind-some (marked 47) s at a (omega arith) (unversioned at) _ ne ∙ behind-some digits s a e (omega arith) (unversioned at) _ nd in
+          let v : methodVersionAt s at ≡ versionTo s e (isOne (drop a s)) = behind-some (marked 47) s at a (omega arith) (unversioned s at) _ ne ∙ behind-some digits s a e (omega arith) (unversioned s at) _ nd in
           let r : got (counted (span s a e)) e ≡ from readDigits s a =
           goes-on (text digits) _ s a (span s a e) e _ (text-at digits s a e (omega arith) nd) (gives (counted (span s a e)) s e) in
           let w : got (counted (span s a e)) e ≡ from methodVersion s at = goes-on (mark 47) _ s at tt a _ (mark-reads s at 47 .there a (omega arith) ne) r in
@@ -151,7 +171,7 @@ module _ (s : List ℕ) (at : ℕ) where
 
       slash : (m : ℕ) → marked 47 (drop at s) ≡ m → Versioned s at (methodVersionAt s at)
       slash zero z =
-          let v : methodVersionAt s at ≡ unversioned at = behind-none (marked 47) s at at (omega arith) (unversioned at) _ refl in
+          let v : methodVersionAt s at ≡ unversioned s at = behind-none (marked 47) s at at (omega arith) (unversioned s at) _ refl in
           rw v (unstated (stops (mark 47) _ s at (mark-reads s at 47 .missing at (omega arith) refl)))
       slash (suc m) z = run m (digits (drop (at + suc m) s)) z refl
 

@@ -12,11 +12,11 @@ use Rattle.resinfo.specs.declared.parts.Method.the-variants as method
 use Rattle.resinfo.specs.declared.parts.Reason.the-variants.{Stated, Absent}
 use Rattle.resinfo.specs.declared.parts.Label.the-variants as label
 use Rattle.resinfo_rules.specs.Results.{methodspec, reason}
-use Rattle.resinfo.specs.Parts.{marked, behind, methodVersionAt, resultAt, methodAt, Told, told, methodGot, reasonAt, reasonGot, Names, names, namesAt, labelAt, labelGot}
+use Rattle.resinfo.specs.Parts.{marked, markedFrom, past, methodVersionAt, resultAt, methodAt, Told, told, methodGot, reasonFrom, reasonAt, reasonGot, Names, names, namesAt, labelFrom, labelAt, labelGot}
 use Rattle.resinfo_rules.proofs.Opened as definitions
 
 unfoldable pub opened : Unit {0}
-unfolding definitions.opened valueAt marked behind methodVersionAt resultAt methodAt reasonAt names namesAt labelAt
+unfolding definitions.opened valueAt marked markedFrom past methodVersionAt resultAt methodAt reasonFrom names namesAt labelFrom
 opened = tt
 
 marks :
@@ -30,6 +30,18 @@ marks :
     ∷ [])
 unfolding opened
 marks = refl
+
+-- behind a part that ends at 0, asked at 1
+marksAsked :
+    Says (λ s. markedFrom (code "=") s 0 1)
+    (case (bytes " = x") 3
+    ∷ case (bytes "a= x") 3
+    ∷ case (bytes "  = x") 0
+    ∷ case (bytes "=") 0
+    ∷ case [] 0
+    ∷ [])
+unfolding opened
+marksAsked = refl
 
 -- ==== method, version and result
 
@@ -96,6 +108,18 @@ reasonPlaces :
     ∷ [])
 unfolding opened
 reasonPlaces = refl
+
+-- behind a part that ends at 0, asked at 2: what stands between is the caller's to know
+reasonsAsked :
+    Says (λ s. reasonFrom s 0 2)
+    (case (bytes "  reason=ok") (Stated 9 11 false)
+    ∷ case (bytes "a reason=ok") (Stated 9 11 false)
+    ∷ case (bytes "   reason=ok") Absent
+    ∷ case (bytes " reason=ok") Absent
+    ∷ case [] Absent
+    ∷ [])
+unfolding opened
+reasonsAsked = refl
 
 abbrev reasonTexts : List (Case (Got (List ℕ)))
 reasonTexts =

@@ -1,6 +1,6 @@
 -- Where the parts that the code finds stand: in order, inside the slice, and behind the place that was asked for, so that a caller may
 -- cut them out and gets on. From what each reader takes being there. Assumes nothing.
-use Prim.Native.Nat.{ℕ, zero, suc, _+_, _≤_, _<_}
+use Prim.Native.Nat.{ℕ, _+_, _≤_, _<_}
 use native.Mathlib.Omega.{arith}
 use mathlib.Core.Path.{_≡_, refl, sym, subst}
 use mathlib.Core.Bool.{Bool, true, false}
@@ -8,7 +8,6 @@ use mathlib.Core.List.{List}
 use lib.ListN.{length, drop, length-drop}
 use Rattle.reading.specs.Readers.{Reader}
 use Rattle.reading.specs.Locality.{Fits}
-use Rattle.lexis_rules.specs.declared.Class.the-variants as class
 use Rattle.lexis_rules.specs.Pieces.{space, keyword, digits}
 use Rattle.lexis_rules.proofs.Pieces.{space-fits, keyword-fits}
 use Rattle.resinfo.specs.declared.parts.MethodVersion.{MethodVersion}
@@ -17,8 +16,8 @@ use Rattle.resinfo.specs.declared.parts.Method.the-variants as method
 use Rattle.resinfo.specs.declared.parts.Label.{Label}
 use Rattle.resinfo.specs.declared.parts.Label.the-variants as label
 use Rattle.resinfo_rules.specs.Results.{next}
-use Rattle.resinfo.specs.Parts.{marked, behind, unversioned, methodVersionAt, resultAt, methodAt, namesAt, labelAt}
-use Rattle.resinfo.proofs.Marks.{next-inside, marked-yes, marked-no, behind-none, behind-some}
+use Rattle.resinfo.specs.Parts.{marked, unversioned, methodVersionAt, resultAt, methodAt, namesAt, labelFrom, labelAt}
+use Rattle.resinfo.proofs.Marks.{next-inside, marked-yes, marked-no, all-behind}
 
 pub marked-fits : (c : ℕ) → Fits (marked c)
 marked-fits c xs = go (next c (drop (space xs) xs)) refl
@@ -27,17 +26,6 @@ marked-fits c xs = go (next c (drop (space xs) xs)) refl
     go true h =
         omega (arith, marked-yes c xs h, next-inside c xs (space xs) h, space-fits (drop (space xs + 1) xs), length-drop (space xs + 1) xs)
     go false h = omega (arith, marked-no c xs h)
-
--- what holds where nothing is taken, and behind what is taken, holds
-all-behind : {A : Type 0} (P : A → Type 0) (f : Reader) (s : List ℕ) (at : ℕ) (z : A) (k : ℕ → A) → P z
-    → ((e : ℕ) → e ≡ at + f (drop at s) → at < e → P (k e)) → P (behind f s at z k)
-all-behind P f s at z k none some = go (f (drop at s)) refl
-  where
-    go : (n : ℕ) → f (drop at s) ≡ n → P (behind f s at z k)
-    go zero i = let b : behind f s at z k ≡ z = behind-none f s at at (omega arith) z k refl in rw b none
-    go (suc n) i =
-        let b : behind f s at z k ≡ k (at + suc n) = behind-some f s at (at + suc n) (omega arith) z k (λ j. omega arith) in
-        rw b (some (at + suc n) (omega arith) (omega arith))
 
 -- the place behind what is taken is inside
 ends-inside : (f : Reader) → Fits f → (s : List ℕ) (at e : ℕ) → e ≡ at + f (drop at s) → at < e → e ≤ length s
@@ -48,8 +36,8 @@ ends-inside f F s at e q l = omega (arith, F (drop at s), length-drop at s)
 version-onward : (s : List ℕ) (at : ℕ) → at ≤ methodVersionAt s at .end
 unfolding methodVersionAt
 version-onward s at =
-    all-behind Onward (marked 47) s at (unversioned at) _ (omega arith)
-    (λ a q l. all-behind Onward digits s a (unversioned at) _ (omega arith) (λ e p m. omega arith))
+    all-behind Onward (marked 47) s at (unversioned s at) _ (omega arith)
+    (λ a q l. all-behind Onward digits s a (unversioned s at) _ (omega arith) (λ e p m. omega arith))
   where
     Onward : MethodVersion → Type 0
     Onward v = at ≤ v .end
@@ -101,7 +89,7 @@ LabelStands s at label.Missing = Unit
 
 module _ (s : List ℕ) (at : ℕ) where
   label-stands : LabelStands s at (labelAt s at)
-  unfolding labelAt namesAt
+  unfolding labelFrom namesAt
   label-stands =
       all-behind (LabelStands s at) space s at label.Missing _ tt
       (λ a p i. all-behind (LabelStands s at) keyword s a label.Missing _ tt

@@ -4,7 +4,7 @@ use native.Mathlib.Omega.{arith}
 use mathlib.Core.Path.{_≡_, refl, sym, ap, _∙_}
 use mathlib.Core.Bool.{Bool, true, false}
 use mathlib.Core.List.{List}
-use lib.ListN.{length, take, drop, length-drop}
+use lib.ListN.{length, getD, take, drop, length-drop}
 use Rattle.reading.specs.Texts.{bytes, within, same}
 use Rattle.reading.specs.Parsers.{Got, nothing, got, when}
 use Rattle.reading.specs.Places.{from}
@@ -21,11 +21,20 @@ use Rattle.lexis_rules.proofs.Values.{value-got}
 use Rattle.resinfo.specs.declared.parts.Reason.{Reason}
 use Rattle.resinfo.specs.declared.parts.Reason.the-variants.{Absent}
 use Rattle.resinfo_rules.specs.Results.{mark, reason}
-use Rattle.resinfo.specs.Parts.{marked, reasonWord, behind, statedAs, reasonAt, reasonGot}
+use Rattle.resinfo_rules.proofs.Keywords.{alike-first}
+use Rattle.resinfo.specs.Parts.{marked, reasonWord, behind, statedAs, reasonFrom, reasonAt, reasonGot}
 use Rattle.values.specs.Values.{span}
-use Rattle.resinfo.proofs.Marks.{behind-none, behind-some, Reads, through, gap-reads, mark-reads, keyword-reads}
+use Rattle.resinfo.proofs.Marks.{past-none, past-some, behind-none, behind-some, Reads, through, gap-reads, mark-reads, keyword-reads}
 
 -- ==== the word, by the tests of the code
+
+-- another letter comes first
+pub word-starts-not : (s : List ℕ) (at b r : ℕ) → b ≡ getD (drop at s) 0 0 → r ≡ lower b → (r ≡ 114 → ⊥) → at ≡ at + reasonWord (drop at s)
+unfolding lower within
+word-starts-not s at b r h i ne =
+    let j : r ≡ lower (getD (drop at s) 0 0) = i ∙ ap lower h in
+    let t = alike-first (keyword (drop at s)) (drop at s) 114 (bytes "eason") (λ e. ne (j ∙ e)) in
+    omega (arith, passing-no (λ k. alike k (bytes "reason")) keyword (drop at s) t)
 
 module _ (s : List ℕ) (at e : ℕ) (q : e ≡ at + keyword (drop at s)) where
   pub word-empty : e ≡ at → at ≡ at + reasonWord (drop at s)
@@ -51,27 +60,27 @@ module _ (s : List ℕ) (at e : ℕ) (q : e ≡ at + keyword (drop at s)) where
 
 -- ==== the reason, by the tests of the code
 
-module _ (s : List ℕ) (at a : ℕ) (q : a ≡ at + space (drop at s)) where
-  pub reason-no-space : a ≡ at → Absent ≡ reasonAt s at
-  unfolding reasonAt
-  reason-no-space z = sym (behind-none space s at a q Absent _ z)
+module _ (s : List ℕ) (at a : ℕ) where
+  pub reason-no-space : a ≡ at → Absent ≡ reasonFrom s at a
+  unfolding reasonFrom
+  reason-no-space z = sym (past-none at a Absent _ z)
 
   module _ (na : a ≡ at → ⊥) (e : ℕ) (p : e ≡ a + reasonWord (drop a s)) where
-    from-word : reasonAt s at ≡ behind reasonWord s a Absent (λ e. behind (marked 61) s e Absent (λ v. statedAs (valueAt s v)))
-    unfolding reasonAt
-    from-word = behind-some space s at a q Absent _ na
+    from-word : reasonFrom s at a ≡ behind reasonWord s a Absent (λ e. behind (marked 61) s e Absent (λ v. statedAs (valueAt s v)))
+    unfolding reasonFrom
+    from-word = past-some at a Absent _ na
 
-    pub reason-no-word : e ≡ a → Absent ≡ reasonAt s at
+    pub reason-no-word : e ≡ a → Absent ≡ reasonFrom s at a
     reason-no-word z = sym (from-word ∙ behind-none reasonWord s a e p Absent _ z)
 
     module _ (ne : e ≡ a → ⊥) (v : ℕ) (m : v ≡ e + marked 61 (drop e s)) where
-      from-equals : reasonAt s at ≡ behind (marked 61) s e Absent (λ v. statedAs (valueAt s v))
+      from-equals : reasonFrom s at a ≡ behind (marked 61) s e Absent (λ v. statedAs (valueAt s v))
       from-equals = from-word ∙ behind-some reasonWord s a e p Absent _ ne
 
-      pub reason-no-equals : v ≡ e → Absent ≡ reasonAt s at
+      pub reason-no-equals : v ≡ e → Absent ≡ reasonFrom s at a
       reason-no-equals z = sym (from-equals ∙ behind-none (marked 61) s e v m Absent _ z)
 
-      pub reason-value : (v ≡ e → ⊥) → (x : Value) → x ≡ valueAt s v → (y : Reason) → y ≡ statedAs x → y ≡ reasonAt s at
+      pub reason-value : (v ≡ e → ⊥) → (x : Value) → x ≡ valueAt s v → (y : Reason) → y ≡ statedAs x → y ≡ reasonFrom s at a
       reason-value nv x i y j = j ∙ (ap statedAs i ∙ sym (from-equals ∙ behind-some (marked 61) s e v m Absent _ nv))
 
 -- ==== what the parser yields
@@ -130,7 +139,7 @@ module _ (s : List ℕ) where
 
   -- what the code finds is what the parser yields
   pub reason-got : (at : ℕ) → reasonGot s (reasonAt s at) ≡ from reason s at
-  unfolding reason reasonAt
+  unfolding reason reasonFrom
   reason-got at =
       through Stands space gap s at _ (gap-reads s at) Absent _ _ refl
       (λ a. through Stands reasonWord (readWord (bytes "reason")) s a _ (word-reads s a) Absent _ _ refl

@@ -1,7 +1,7 @@
 -- The step reader finds what the parser of properties yields, and it ends where a result may end. By cases of what stands before a
 -- property value. Assumes nothing.
 use Prim.Native.Char.{code}
-use Prim.Native.Nat.{ℕ, _+_, _≤_, _<_}
+use Prim.Native.Nat.{ℕ, _≤_, _<_}
 use native.Mathlib.Omega.{arith}
 use mathlib.Core.Path.{_≡_, refl, sym, ap, _∙_}
 use mathlib.Core.Bool.{Bool, true, false}
@@ -9,12 +9,10 @@ use mathlib.Core.List.{List}
 use lib.Dec.{eqb}
 use lib.ListN.{length, getD, drop}
 use lib.Seq.{drop-drop}
-use Rattle.reading.specs.Texts.{follows}
 use Rattle.reading.specs.Parsers.{nothing, got}
 use Rattle.reading.specs.Places.{from}
 use Rattle.reading.proofs.Texts.{follows-at, follows-end}
 use Rattle.reading.proofs.Places.{goes-on, stops, gives}
-use Rattle.lexis_rules.specs.Pieces.{space}
 use Rattle.lexis_rules.specs.Words.{keywordText}
 use Rattle.resinfo.specs.declared.Step.{Step}
 use Rattle.resinfo.specs.declared.Step.the-variants as step
@@ -23,34 +21,37 @@ use Rattle.resinfo.specs.declared.parts.Label.the-variants as label
 use Rattle.values.specs.declared.Found.{Found}
 use Rattle.values.specs.declared.Found.the-variants as found
 use Rattle.resinfo_rules.specs.Results.{Property, property, propertyValue}
-use Rattle.resinfo.specs.Parts.{labelAt}
+use Rattle.resinfo.specs.Parts.{spaced, labelFrom, labelAt}
 use Rattle.values.specs.Values.{span, valueOf, valueAt, valueGot}
-use Rattle.resinfo.specs.Steps.{closes, endOf, propertyOf, stepOf, stepAt, propertyGot}
+use Rattle.resinfo.specs.Steps.{isEnd, closes, endOf, propertyOf, stepOf, stepFrom, stepAt, propertyGot}
 use Rattle.resinfo.proofs.Labels.{property-behind, property-not}
 use Rattle.values.proofs.ValueGot.{value-got}
 
 -- ==== by the tests of the code
 
-module _ (s : List ℕ) (at a : ℕ) (q : a ≡ at + space (drop at s)) where
-  closes-is : closes (drop at s) ≡ follows (λ b. eqb b (code ";")) (drop a s)
-  unfolding closes
-  closes-is = rw (drop-drop, q)
+module _ (s : List ℕ) (at : ℕ) where
+  pub end-at : at < length s → (r : Bool) → r ≡ eqb (getD s at 0) (code ";") → r ≡ isEnd (drop at s)
+  unfolding isEnd
+  end-at h r e = follows-at (λ b. eqb b (code ";")) s at h r e
 
-  pub closed-at : a < length s → (r : Bool) → r ≡ eqb (getD s a 0) (code ";") → r ≡ closes (drop at s)
-  closed-at h r e = follows-at (λ b. eqb b (code ";")) s a h r e ∙ sym closes-is
+  pub end-over : length s ≤ at → true ≡ isEnd (drop at s)
+  unfolding isEnd
+  end-over h = follows-end (λ b. eqb b (code ";")) s at h
 
-  pub closed-end : length s ≤ a → true ≡ closes (drop at s)
-  closed-end h = follows-end (λ b. eqb b (code ";")) s a h ∙ sym closes-is
+module _ (s : List ℕ) (at x : ℕ) where
+  pub step-property : (a e b f v : ℕ) → label.Read a e b f v ≡ labelFrom s at x → (w : Found) → w ≡ valueAt s v → (r : Step) → r ≡ propertyOf a e b f w
+      → r ≡ stepFrom s at x
+  step-property a e b f v h w i r k = k ∙ (ap (propertyOf a e b f) i ∙ ap (stepOf s x) h)
+
+  pub step-end : label.Missing ≡ labelFrom s at x → (c : Bool) → c ≡ isEnd (drop x s) → (r : Step) → r ≡ endOf c → r ≡ stepFrom s at x
+  step-end h c i r k = k ∙ (ap endOf i ∙ ap (stepOf s x) h)
+
+-- ==== what the parser yields
 
 module _ (s : List ℕ) (at : ℕ) where
-  pub step-property : (a e b f v : ℕ) → label.Read a e b f v ≡ labelAt s at → (x : Found) → x ≡ valueAt s v → (r : Step) → r ≡ propertyOf a e b f x
-      → r ≡ stepAt s at
-  step-property a e b f v h x i r k = k ∙ (ap (propertyOf a e b f) i ∙ ap (stepOf s at) h)
-
-  pub step-end : label.Missing ≡ labelAt s at → (c : Bool) → c ≡ closes (drop at s) → (r : Step) → r ≡ endOf c → r ≡ stepAt s at
-  step-end h c i r k = k ∙ (ap endOf i ∙ ap (stepOf s at) h)
-
-  -- ==== what the parser yields
+  closes-is : closes (drop at s) ≡ isEnd (drop (spaced s at) s)
+  unfolding closes
+  closes-is = rw drop-drop
 
   -- what a step finds, with its texts, is what the parser of properties yields there
   pub step-got : propertyGot s (stepAt s at) ≡ from property s at
@@ -66,8 +67,8 @@ module _ (s : List ℕ) (at : ℕ) where
           let p : Property = record { ptype = keywordText (span s a e); property = keywordText (span s b f); value = valueOf s w } in
           property-behind s at a e b f v h (got p x) (goes-on propertyValue _ s v (valueOf s w) x (got p x) (ap (valueGot s) (sym i) ∙ value-got s v) (gives p s x))
 
-      go : (l : Label) → labelAt s at ≡ l → propertyGot s (stepOf s at l) ≡ from property s at
-      go label.Missing h = ends (closes (drop at s)) (property-not s at (sym h))
+      go : (l : Label) → labelAt s at ≡ l → propertyGot s (stepOf s (spaced s at) l) ≡ from property s at
+      go label.Missing h = ends (isEnd (drop (spaced s at) s)) (property-not s at (sym h))
       go (label.Read a e b f v) h = valued a e b f v (sym h) (valueAt s v) refl
 
   -- where a step says that the result is done, it may end
@@ -83,5 +84,5 @@ module _ (s : List ℕ) (at : ℕ) where
       valued a e b f (found.Read w x) k = absurd (let z : _≡_ {A = ℕ} 0 1 = cc in omega arith)
 
       go : (l : Label) → labelAt s at ≡ l → closes (drop at s) ≡ true
-      go label.Missing h = ends (closes (drop at s)) refl (d ∙ ap (stepOf s at) h)
-      go (label.Read a e b f v) h = valued a e b f (valueAt s v) (d ∙ ap (stepOf s at) h)
+      go label.Missing h = ends (isEnd (drop (spaced s at) s)) closes-is (d ∙ ap (stepOf s (spaced s at)) h)
+      go (label.Read a e b f v) h = valued a e b f (valueAt s v) (d ∙ ap (stepOf s (spaced s at)) h)

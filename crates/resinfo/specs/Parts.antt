@@ -1,9 +1,10 @@
 -- What the code's answers on the parts of a result say: the parts by their places, and the texts that stand there.
 -- Assumes nothing: these are definitions.
 use Prim.Native.Char.{code}
-use Prim.Native.Nat.{ℕ, zero, suc, _+_}
+use Prim.Native.Nat.{ℕ, _+_}
 use mathlib.Core.Bool.{Bool, true, false}
 use mathlib.Core.List.{List}
+use lib.Dec.{eqb}
 use lib.ListN.{drop}
 use Rattle.reading.specs.Texts.{bytes, same}
 use Rattle.reading.specs.Readers.{Reader, passing}
@@ -30,25 +31,40 @@ use Rattle.values.specs.Values.{span}
 unfoldable pub marked : ℕ → Reader
 marked c xs = elim (next c (drop (space xs) xs)) [ true ↦ space xs + 1 + space (drop (space xs + 1) xs) | false ↦ 0 ]
 
+-- the place where the space behind a place ends
+abbrev pub spaced : List ℕ → ℕ → ℕ
+spaced s at = at + space (drop at s)
+
+-- a mark behind a part that ends at `at`, looked for at the place a: where the space behind it ends, and `at` where there is none
+unfoldable pub markedFrom : ℕ → List ℕ → ℕ → ℕ → ℕ
+markedFrom c s at a = elim (next c (drop a s)) [ true ↦ spaced s (a + 1) | false ↦ at ]
+
 -- the word reason, in any case
 abbrev pub reasonWord : Reader
 reasonWord = passing (λ k. alike k (bytes "reason")) keyword
 
--- what is said of the place behind what a reader takes at a place; z where it takes nothing
-unfoldable pub behind : {A : Type 0} → Reader → List ℕ → ℕ → A → (ℕ → A) → A
-behind f s at z k = elim (f (drop at s)) [ zero ↦ z | suc n ↦ k (at + suc n) ]
+-- what is said of the place e behind what was taken at a place; z where nothing was, so that both are the same
+unfoldable pub past : {A : Type 0} → ℕ → ℕ → A → (ℕ → A) → A
+past at e z k = elim (eqb e at) [ true ↦ z | false ↦ k e ]
+
+-- the same of the place behind what a reader takes
+abbrev pub behind : {A : Type 0} → Reader → List ℕ → ℕ → A → (ℕ → A) → A
+behind f s at z k = past at (at + f (drop at s)) z k
 
 -- ==== method, version and result
 
+-- a version that ends at a place, and whether its number is 1
+abbrev pub versionTo : List ℕ → ℕ → Bool → MethodVersion
+versionTo s e o = record { end = e; gap = spaced s e; one = o }
+
 -- absent means 1
-abbrev pub unversioned : ℕ → MethodVersion
-unversioned at = record { end = at; one = true }
+abbrev pub unversioned : List ℕ → ℕ → MethodVersion
+unversioned s at = versionTo s at true
 
 -- "/" and a digit run, if they can be read: the place after it, and whether its number is 1
 unfoldable pub methodVersionAt : List ℕ → ℕ → MethodVersion
 methodVersionAt s at =
-    behind (marked (code "/")) s at (unversioned at)
-    (λ a. behind digits s a (unversioned at) (λ e. record { end = e; one = isOne (drop a s) }))
+    behind (marked (code "/")) s at (unversioned s at) (λ a. behind digits s a (unversioned s at) (λ e. versionTo s e (isOne (drop a s))))
 
 -- "=" at a place and a result keyword, behind a method from a up to e
 unfoldable pub resultAt : List ℕ → ℕ → ℕ → MethodVersion → Method
@@ -81,9 +97,14 @@ statedAs (Token a e) = Stated a e false
 statedAs (Quoted a e) = Stated a e true
 statedAs Nothing = Absent
 
--- after non-empty space, reason "=" value
-unfoldable pub reasonAt : List ℕ → ℕ → Reason
-reasonAt s at = behind space s at Absent (λ a. behind reasonWord s a Absent (λ e. behind (marked (code "=")) s e Absent (λ v. statedAs (valueAt s v))))
+-- behind a part that ends at `at`, reason "=" value at the place a: not where that is the same place
+unfoldable pub reasonFrom : List ℕ → ℕ → ℕ → Reason
+reasonFrom s at a =
+    past at a Absent (λ a. behind reasonWord s a Absent (λ e. behind (marked (code "=")) s e Absent (λ v. statedAs (valueAt s v))))
+
+-- after non-empty space
+abbrev pub reasonAt : List ℕ → ℕ → Reason
+reasonAt s at = reasonFrom s at (spaced s at)
 
 -- the text of a reason that was found, and the place after it
 abbrev pub reasonGot : List ℕ → Reason → Got (List ℕ)
@@ -114,8 +135,13 @@ namesAt s a e =
     behind (marked (code ".")) s e label.Missing
     (λ b. behind keyword s b label.Missing (λ f. behind (marked (code "=")) s f label.Missing (λ v. label.Read a e b f v)))
 
-unfoldable pub labelAt : List ℕ → ℕ → Label
-labelAt s at = behind space s at label.Missing (λ a. behind keyword s a label.Missing (λ e. namesAt s a e))
+-- behind a part that ends at `at`, a ptype at the place a, and so on: not where that is the same place
+unfoldable pub labelFrom : List ℕ → ℕ → ℕ → Label
+labelFrom s at a = past at a label.Missing (λ a. behind keyword s a label.Missing (λ e. namesAt s a e))
+
+-- after non-empty space
+abbrev pub labelAt : List ℕ → ℕ → Label
+labelAt s at = labelFrom s at (spaced s at)
 
 -- the texts of ptype and property that were found, and the place of the value
 abbrev pub labelGot : List ℕ → Label → Got Names

@@ -1,6 +1,6 @@
 -- What the step reader answers: what stands behind a method, a reason or a property. Assumes nothing: these are definitions.
 use Prim.Native.Char.{code}
-use Prim.Native.Nat.{ℕ, _+_}
+use Prim.Native.Nat.{ℕ}
 use mathlib.Core.Bool.{Bool, true, false}
 use mathlib.Core.List.{List}
 use lib.Dec.{eqb}
@@ -16,12 +16,16 @@ use Rattle.resinfo.specs.declared.parts.Label.the-variants as label
 use Rattle.values.specs.declared.Found.{Found}
 use Rattle.values.specs.declared.Found.the-variants as found
 use Rattle.resinfo_rules.specs.Results.{Property}
-use Rattle.resinfo.specs.Parts.{labelAt}
+use Rattle.resinfo.specs.Parts.{spaced, labelFrom}
 use Rattle.values.specs.Values.{span, valueOf, valueAt}
+
+-- ";" or the end comes next
+unfoldable pub isEnd : List ℕ → Bool
+isEnd = follows (λ b. eqb b (code ";"))
 
 -- after the longest space, ";" or the end comes next
 unfoldable pub closes : List ℕ → Bool
-closes xs = follows (λ b. eqb b (code ";")) (drop (space xs) xs)
+closes xs = isEnd (drop (space xs) xs)
 
 -- a result may end here, or nothing that is allowed stands here
 abbrev pub endOf : Bool → Step
@@ -33,12 +37,18 @@ abbrev pub propertyOf : ℕ → ℕ → ℕ → ℕ → Found → Step
 propertyOf a e b f (found.Read v x) = step.Property a e b f v x
 propertyOf a e b f found.Refused = step.Refused
 
+-- the step that this makes, where the space behind the part before it ends at x
 abbrev pub stepOf : List ℕ → ℕ → Label → Step
-stepOf s at (label.Read a e b f v) = propertyOf a e b f (valueAt s v)
-stepOf s at label.Missing = endOf (closes (drop at s))
+stepOf s x (label.Read a e b f v) = propertyOf a e b f (valueAt s v)
+stepOf s x label.Missing = endOf (isEnd (drop x s))
 
+-- behind a part that ends at `at`, what stands at the place x
+abbrev pub stepFrom : List ℕ → ℕ → ℕ → Step
+stepFrom s at x = stepOf s x (labelFrom s at x)
+
+-- what stands behind the space
 abbrev pub stepAt : List ℕ → ℕ → Step
-stepAt s at = stepOf s at (labelAt s at)
+stepAt s at = stepFrom s at (spaced s at)
 
 -- a property that was found, and the place after it
 abbrev pub propertyGot : List ℕ → Step → Got Property

@@ -5,7 +5,7 @@ use values::Found;
 use values::Value;
 ghost use mathlib.Core.Path.{_≡_};
 ghost use lib.ListN.{drop};
-ghost use Rattle.resinfo.specs.Steps.{closes, endOf, propertyOf, stepAt};
+ghost use Rattle.resinfo.specs.Steps.{isEnd, endOf, propertyOf, stepFrom};
 
 pub mod parts;
 
@@ -24,13 +24,12 @@ pub enum Step {
     Refused,
 }
 
-// Whether ";" or the end comes next after the longest space.
+// Whether ";" or the end comes next.
 fn is_closed(s: &[u8], at: usize) -> bool
-    ensures { λ r. ⌜ r ≡ closes (drop at (now (s .entry))) ⌝ }
+    ensures { λ r. ⌜ r ≡ isEnd (drop at (now (s .entry))) ⌝ }
 {
-    let a = lexis::space_end(s, at);
-    if a < s.len() {
-        return s[a] == b';';
+    if at < s.len() {
+        return s[at] == b';';
     }
     true
 }
@@ -59,11 +58,11 @@ fn property_of(a: usize, e: usize, b: usize, f: usize, found: Found) -> Step
     }
 }
 
-// The next step of a result, behind a part that ends at a place.
-pub fn step_at(s: &[u8], at: usize) -> Step
-    ensures { λ r. ⌜ r ≡ stepAt (now (s .entry)) at ⌝ }
+// The next step of a result, behind a part that ends at a place, where the space behind it ends at `a`.
+pub fn step_from(s: &[u8], at: usize, a: usize) -> Step
+    ensures { λ r. ⌜ r ≡ stepFrom (now (s .entry)) at a ⌝ }
 {
-    match parts::label_at(s, at) {
+    match parts::label_from(s, at, a) {
         Label::Read {
             type_start,
             type_end,
@@ -77,6 +76,6 @@ pub fn step_at(s: &[u8], at: usize) -> Step
             name_end,
             values::value_at(s, value),
         ),
-        Label::Missing => end_of(is_closed(s, at)),
+        Label::Missing => end_of(is_closed(s, a)),
     }
 }

@@ -2,12 +2,15 @@
 // result, a reason, and what stands before a property value.
 //
 // Any place may be asked for, also past the end. Nothing is refused here: what it means that a part is missing is the caller's to say.
+//
+// What comes behind space is asked for by two places, that of the part before it and that where the space ends (`lexis::space_end`), so
+// that a caller who knows the second reads the space once. Where both are the same there is no space.
 use lexis_rules::Value;
 ghost use mathlib.Core.Path.{_≡_};
 ghost use Prim.Native.Nat.{_+_};
 ghost use lib.ListN.{drop};
 ghost use Rattle.resinfo_rules.specs.Results.{next};
-ghost use Rattle.resinfo.specs.Parts.{marked, reasonWord, methodVersionAt, methodAt, statedAs, reasonAt, labelAt};
+ghost use Rattle.resinfo.specs.Parts.{marked, markedFrom, reasonWord, methodVersionAt, methodAt, statedAs, reasonFrom, labelFrom};
 
 // Whether a byte comes next. At the end none does.
 fn comes_next(s: &[u8], at: usize, b: u8) -> bool
@@ -23,16 +26,23 @@ fn comes_next(s: &[u8], at: usize, b: u8) -> bool
 pub fn mark_end(s: &[u8], at: usize, b: u8) -> usize
     ensures { λ r. ⌜ r ≡ at + marked b (drop at (now (s .entry))) ⌝ }
 {
-    let a = lexis::space_end(s, at);
+    mark_from(s, at, lexis::space_end(s, at), b)
+}
+
+// The same, where the space before the byte ends at `a`.
+pub fn mark_from(s: &[u8], at: usize, a: usize, b: u8) -> usize
+    ensures { λ r. ⌜ r ≡ markedFrom b (now (s .entry)) at a ⌝ }
+{
     if comes_next(s, a, b) {
         return lexis::space_end(s, a + 1);
     }
     at
 }
 
-// The version of a method: the place after it, and whether its number is 1.
+// The version of a method: the place after it, where the space behind that ends, and whether its number is 1.
 struct MethodVersion {
     end: usize,
+    gap: usize,
     one: bool,
 }
 
@@ -40,16 +50,26 @@ struct MethodVersion {
 fn method_version_at(s: &[u8], at: usize) -> MethodVersion
     ensures { λ r. ⌜ r ≡ methodVersionAt (now (s .entry)) at ⌝ }
 {
-    let a = mark_end(s, at, b'/');
+    let gap = lexis::space_end(s, at);
+    let a = mark_from(s, at, gap, b'/');
     if a == at {
-        return MethodVersion { end: at, one: true };
+        return MethodVersion {
+            end: at,
+            gap,
+            one: true,
+        };
     }
     let d = lexis::digits_at(s, a);
     if d.end == a {
-        return MethodVersion { end: at, one: true };
+        return MethodVersion {
+            end: at,
+            gap,
+            one: true,
+        };
     }
     MethodVersion {
         end: d.end,
+        gap: lexis::space_end(s, d.end),
         one: d.one,
     }
 }
@@ -75,7 +95,7 @@ pub fn method_at(s: &[u8], at: usize) -> Method
         return Method::Missing;
     }
     let version = method_version_at(s, end);
-    let result_start = mark_end(s, version.end, b'=');
+    let result_start = mark_from(s, version.end, version.gap, b'=');
     if result_start == version.end {
         return Method::Missing;
     }
@@ -102,10 +122,13 @@ pub enum Reason {
     Absent,
 }
 
-// The end of the word reason, in any case.
+// The end of the word reason, in any case. Most keywords start with another letter, and are not read.
 fn reason_word_end(s: &[u8], at: usize) -> usize
     ensures { λ r. ⌜ r ≡ at + reasonWord (drop at (now (s .entry))) ⌝ }
 {
+    if texts::lower(reading::byte(s, at, 0)) != b'r' {
+        return at;
+    }
     let e = lexis::keyword_end(s, at);
     if e == at {
         return at;
@@ -135,11 +158,10 @@ fn stated_as(v: Value) -> Reason
     }
 }
 
-// The reason behind a result that ends at a place.
-pub fn reason_at(s: &[u8], at: usize) -> Reason
-    ensures { λ r. ⌜ r ≡ reasonAt (now (s .entry)) at ⌝ }
+// The reason behind a result that ends at a place, where the space behind it ends at `word`.
+pub fn reason_from(s: &[u8], at: usize, word: usize) -> Reason
+    ensures { λ r. ⌜ r ≡ reasonFrom (now (s .entry)) at word ⌝ }
 {
-    let word = lexis::space_end(s, at);
     if word == at {
         return Reason::Absent;
     }
@@ -166,11 +188,10 @@ pub enum Label {
     Missing,
 }
 
-// What stands before a property value, behind a part that ends at a place.
-pub fn label_at(s: &[u8], at: usize) -> Label
-    ensures { λ r. ⌜ r ≡ labelAt (now (s .entry)) at ⌝ }
+// What stands before a property value, behind a part that ends at a place, where the space behind it ends at `type_start`.
+pub fn label_from(s: &[u8], at: usize, type_start: usize) -> Label
+    ensures { λ r. ⌜ r ≡ labelFrom (now (s .entry)) at «type_start» ⌝ }
 {
-    let type_start = lexis::space_end(s, at);
     if type_start == at {
         return Label::Missing;
     }

@@ -1,7 +1,7 @@
 -- A property value is the same whatever comes behind the end or the delimiter that follows it: each kind from the laws of its parts, and
 -- the two choices because each kind tells itself apart by its bytes and the one that follows. Assumes nothing.
 use Prim.Native.Char.{code}
-use Prim.Native.Nat.{ℕ, suc, _≤_, _<_}
+use Prim.Native.Nat.{ℕ, suc, _+_, _≤_, _<_}
 use native.Mathlib.Omega.{arith}
 use mathlib.Core.Path.{_≡_, refl, sym, _∙_}
 use mathlib.Core.Bool.{Bool, true, false, not, _&&_, _||_}
@@ -193,6 +193,10 @@ pub token-in-local : (b : ℕ) → inClass class.Token b ≡ true → inLocalPar
 unfolding opened
 token-in-local b e =
     implied (inClass class.Token b) (inLocalPart b) (tested-at (λ b. not (inClass class.Token b) || inLocalPart b) 127 b tt (token-bound b e)) e
+
+-- so the run of bytes of a local part goes on where the token at its front ends
+pub local-past-token : (xs : List ℕ) → run inLocalPart xs ≡ token xs + run inLocalPart (drop (token xs) xs)
+local-past-token xs = run-from inLocalPart (token xs) xs (run-narrow (inClass class.Token) inLocalPart token-in-local xs)
 
 -- behind a token with what may follow it, no "@" follows the longer run
 pub token-no-at : (xs : List ℕ) (a : Value) (n : ℕ) → tokenValue xs ≡ got a n → Delimited (drop n xs) → atBehind xs ≡ false

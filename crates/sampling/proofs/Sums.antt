@@ -1,19 +1,17 @@
--- The loops over bytes: the sum and the count from a place on, with what stands so far, are those of the whole list; two runs are the same
--- from a place on where they are the same. One turn and the end of each, by the definition's one step. Assumes nothing.
+-- The loops over bytes: the sum and the count from a place on, with what stands so far, are those of the whole list. One turn and the end of
+-- each, by the definition's one step. Assumes nothing.
 use Prim.Native.Nat.{ℕ, suc, _+_, _*_, _%_, _≤_, _<_, _^_}
 use native.Mathlib.Numerals.{add-one}
 use native.Mathlib.Omega.{arith}
-use mathlib.Core.Path.{_≡_, refl, sym, _∙_}
+use mathlib.Core.Path.{_≡_, refl, _∙_}
 use mathlib.Core.Bool.{Bool, true, false, cond}
-use mathlib.Core.List.{List, [], _∷_}
+use mathlib.Core.List.{List}
 use lib.Dec.{eqb}
 use lib.ListN.{length, getD, drop, drop-of-length-le}
 use lib.Seq.{drop-cons}
 use borrow.Author.Tests.{eq-eqb, ne-eqb}
 use mir.Syntax.{w64}
 use mir.Val.{Fits}
-use Rattle.reading.specs.Texts.{same}
-use Rattle.reading.proofs.Texts.{same-long}
 use Rattle.sampling.specs.Samples.{sums, adler, changed}
 
 -- ==== the Adler-32 sum
@@ -57,25 +55,3 @@ module _ (s : List ℕ) (count i : ℕ) (w : count + changed (drop i s) ≡ chan
   pub changed-end : length s ≤ i → count ≡ changed s
   unfolding changed
   changed-end h = omega (arith, rw (drop-of-length-le s h) at w)
-
--- ==== two runs of bytes
-
-pub lengths-differ : (a b : List ℕ) → (length a ≡ length b → ⊥) → false ≡ same a b
-lengths-differ a b ne = sym (same-long a b ne)
-
-module _ (a b : List ℕ) (i : ℕ) (l : length a ≡ length b) (w : same (drop i a) (drop i b) ≡ same a b) where
-  pub same-end : length a ≤ i → true ≡ same a b
-  unfolding same
-  same-end h = let k : length b ≤ i = omega arith in rw (drop-of-length-le a h, drop-of-length-le b k) at w
-
-  module _ (h : i < length a) where
-    both : same (getD a i 0 ∷ drop (suc i) a) (getD b i 0 ∷ drop (suc i) b) ≡ same a b
-    both = let k : i < length b = omega arith in rw (drop-cons a i 0 h, drop-cons b i 0 k) at w
-
-    pub same-more : getD a i 0 ≡ getD b i 0 → same (drop (i + 1) a) (drop (i + 1) b) ≡ same a b
-    unfolding same
-    same-more e = rw add-one (rw (eq-eqb (getD a i 0) (getD b i 0) e) at both)
-
-    pub same-off : (getD a i 0 ≡ getD b i 0 → ⊥) → false ≡ same a b
-    unfolding same
-    same-off ne = rw (ne-eqb (getD a i 0) (getD b i 0) ne) at both

@@ -6,9 +6,9 @@ use native.Mathlib.Numerals.{add-one}
 use native.Mathlib.Omega.{arith}
 use mathlib.Core.Path.{_≡_, refl, sym, ap, _∙_}
 use mathlib.Core.Logic.{_⊎_, ⊎-elim}
-use mathlib.Core.List.{List, [], _∷_, _++_}
-use lib.ListN.{length, take, drop, getD, set, length-append, drop-of-length-le}
-use lib.Seq.{sets, sets-eq, set-out, length-sets, drop-cons, take-append-seam}
+use mathlib.Core.List.{List, [], _∷_, _++_, append-nil}
+use lib.ListN.{length, take, drop, getD, set, length-append, drop-of-length-le, take-append-drop}
+use lib.Seq.{sets, sets-eq, set-out, length-sets, length-take-le, drop-cons, drop-length, take-append-seam}
 use Rattle.sequences.specs.Stored.{Wrote, Put}
 
 -- a text in two parts: the first, and then the second after it
@@ -63,6 +63,19 @@ pub put-front : {old text new : List ℕ} {size : ℕ} → Put old 0 text new si
 put-front {old} {text} p h =
     let f : length text ≤ length old = omega (arith, p .count) in
     rw (p .count, p .bytes, sets-front old text f) (take-append-seam text (drop (length text) old))
+
+-- a text that has no room, stored from the start: as much of it as there is room for
+sets-full : (l vs : List ℕ) → length l ≤ length vs → sets l 0 vs ≡ take (length l) vs
+sets-full l vs h =
+    let m = length l in
+    let n : length (take m vs) ≡ m = length-take-le m vs h in
+    let a : length (take m vs) ≤ m = omega arith in
+    let f : sets l 0 (take m vs) ≡ take m vs = sets-front l (take m vs) a ∙ rw (n, drop-length l, append-nil) in
+    let o : length (sets l 0 (take m vs)) ≤ 0 + length (take m vs) = omega (arith, length-sets l 0 (take m vs)) in
+    ap (sets l 0) (sym (take-append-drop m vs)) ∙ (sets-append l 0 (take m vs) (drop m vs) ∙ (sets-out (sets l 0 (take m vs)) (0 + length (take m vs)) (drop m vs) o ∙ f))
+
+pub put-full : {old text new : List ℕ} {size k : ℕ} → Put old 0 text new size → length old ≡ k → k ≤ size → new ≡ take k text
+put-full {old} {text} p l h = p .bytes ∙ (sets-full old text (omega (arith, p .count)) ∙ rw l)
 
 pub put-long : {old text new : List ℕ} {at size : ℕ} → Put old at text new size → length new ≡ length old
 put-long {old} {text} {new} {at} p = ap length (p .bytes) ∙ length-sets old at text

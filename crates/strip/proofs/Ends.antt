@@ -1,5 +1,6 @@
 -- The answers of the stripper, one law for each way out of the code. Assumes nothing.
 use Prim.Native.Nat.{ℕ, zero, suc, _-_, _≤_, _<_}
+use native.Mathlib.Nat.{zero-add}
 use native.Mathlib.Omega.{arith}
 use mathlib.Core.Path.{_≡_, refl, sym, ap, _∙_}
 use mathlib.Core.Bool.{Bool, true, false}
@@ -8,15 +9,17 @@ use borrow.Author.Tests.{lt-ltb, le-ltb}
 use lib.Dec.{ltb, leb}
 use lib.ListN.{length, take}
 use lib.Seq.{sets}
-use Rattle.sequences.specs.Stored.{Put}
+use Rattle.sequences.specs.Stored.{Put, Clipped}
 use Rattle.sequences.proofs.Splices.{wrote-count, wrote-front, put-front}
 use Rattle.reading.specs.Walks.{Walked, walk}
 use Rattle.lexis_rules.specs.Limits.{byteLimit}
-use Rattle.ownlist.specs.declared.entries.Checked.the-variants.{Good, Bad}
+use Rattle.listing.specs.declared.Checked.the-variants.{Good, Bad}
 use Rattle.block_rules.specs.Fields.{Field, fields, bytesOf}
-use Rattle.authserv_rules.specs.OwnList.{ownList}
+use Rattle.authserv_rules.specs.OwnList.{entryLimit, ownList}
+use Rattle.authserv_rules.specs.Ends.{endsOf, cutAt}
+use Rattle.authserv_rules.proofs.Ends.{cut-ends, spelled-ends, good-ends}
 use Rattle.authserv_rules.proofs.Entries.{list-five}
-use Rattle.ownlist.specs.Steps.{checkedOf}
+use Rattle.listing.specs.Steps.{checkedOf}
 use Rattle.block_rules.proofs.Fields.{fields-fine, walk-back}
 use Rattle.punycode_rules.specs.Labels.{doubleHyphen}
 use Rattle.authserv_rules.specs.Spelled.{spelledList, linesOf, amongSpelled}
@@ -24,7 +27,7 @@ use Rattle.authserv_rules.proofs.OwnLists.{list-among}
 use Rattle.authserv_rules.proofs.Headlines.{list-plain}
 use Rattle.strip_rules.specs.declared.Stripped.{Stripped}
 use Rattle.strip_rules.specs.Strip.{Answer, refuse, removedOf, keptOf, done, fitted, orRefusal, stripFields, strip}
-use Rattle.strip.specs.Internal.{Sifted}
+use Rattle.strip.specs.Internal.{Sifted, between, Marked}
 use Rattle.strip_rules.specs.Answers.{answerOf, leaves}
 use Rattle.strip_rules.proofs.Laws.{Listed}
 use Rattle.strip_rules.proofs.Alike.{same-stripped}
@@ -50,16 +53,14 @@ fields-place s z =
     let b : fields s ≡ record { items = fields s .items; number = 0; place = 0 } = rw (w .bytes) at (walk-back 0 0 (w .sound) (w .few)) in
     ap (λ (v : Walked Field). v .place) b
 
--- the kept fields that went to a buffer with room for all of them, copied to another one
-pub copied : (s : List ℕ) (listed : List ℕ → Bool) (old first new : List ℕ) (m : Stripped) → Sifted s listed first new m → m .kept ≤ length first → (out : List ℕ) (n : ℕ)
-    → Put old 0 (take (m .kept) new) out n → Sifted s listed old out m
-copied s listed old first new m k h out n p =
-    let text = bytesOf (keptOf listed (fields s .items)) in
-    let t : take (m .kept) new ≡ text = put-front {old = first} {text = text} (record { count = wrote-count (k .wrote); bytes = k .wrote .bytes }) h in
+-- what stands between the fields that go, written where the places of all of them found room
+pub marked-wrote : (s : List ℕ) (listed : List ℕ → Bool) (old out starts ends : List ℕ) (m : Stripped) (n : ℕ) → Marked s listed starts ends m → m .number ≡ 0
+    → m .fields ≤ length starts → m .fields ≤ length ends → Clipped old 0 (between s starts ends (m .fields)) out n → Sifted s listed old out m
+marked-wrote s listed old out starts ends m n k z h l w =
     record {
       number = k .number;
       place = k .place;
-      wrote = record { place = k .wrote .place; bytes = p .bytes ∙ ap (sets old 0) t };
+      wrote = record { place = k .kept ∙ sym (zero-add _); bytes = w .bytes ∙ ap (sets old 0) (sym (k .whole z h l)) };
       removed = k .removed;
       fields = k .fields;
     }
@@ -73,7 +74,7 @@ refused a old r n p e q = (rw q e, rw q)
 
 -- ==== behind the list
 
-module _ (s : List ℕ) (listed : List ℕ → Bool) (old : List ℕ) (r m : Stripped) (first new : List ℕ) (k : Sifted s listed first new m) where
+module _ (s : List ℕ) (listed : List ℕ → Bool) (old : List ℕ) (r m : Stripped) (starts ends : List ℕ) (k : Marked s listed starts ends m) where
   pub answer-2-4 : (m .number ≡ 0 → ⊥) → r ≡ record { number = m .number; place = m .place; kept = 0; removed = 0; fields = 0 }
       → Answered (stripFields s listed (length old)) old old r
   unfolding stripFields
@@ -90,7 +91,7 @@ module _ (s : List ℕ) (listed : List ℕ → Bool) (old : List ℕ) (r m : Str
     sound = sym (k .number) ∙ z
 
     needed : m .kept ≡ length (bytesOf (keptOf listed (fields s .items)))
-    needed = wrote-count (k .wrote)
+    needed = k .kept
 
     pub answer-6 : length old < m .kept → r ≡ record { number = 6; place = m .kept; kept = 0; removed = 0; fields = 0 } → Answered (stripFields s listed (length old)) old old r
     unfolding stripFields fitted
@@ -109,6 +110,22 @@ module _ (s : List ℕ) (listed : List ℕ → Bool) (old : List ℕ) (r m : Str
         same : (r : Stripped) (n p k q f : ℕ) → r .number ≡ n → r .place ≡ p → r .kept ≡ k → r .removed ≡ q → r .fields ≡ f
             → r ≡ record { number = n; place = p; kept = k; removed = q; fields = f }
         same r n p k q f e₀ e₁ e₂ e₃ e₄ = rw (← e₀, ← e₁, ← e₂, ← e₃, ← e₄)
+
+-- ==== the ends of the list's lines
+
+-- found once, they cut the list into its lines
+pub answer-lines : (s own old new : List ℕ) (r : Stripped) (first ends : List ℕ) (n : ℕ) → Put first 0 (endsOf own) ends n → n ≤ length first
+    → Answered (stripFields s (amongSpelled (cutAt own 0 (take n ends))) (length old)) old new r → Answered (stripFields s (amongSpelled (linesOf own)) (length old)) old new r
+answer-lines s own old new r first ends n w h a =
+    let e : cutAt own 0 (take n ends) ≡ linesOf own = rw (put-front w h) (cut-ends own) in
+    rw e at a
+
+-- and a list has as many at most as there is room for, as it was spelled and as it stands
+pub spelled-room : (list first own : List ℕ) (n : ℕ) → Put first 0 (spelledList (ownList list .items)) own n → n ≤ length first → length (endsOf (take n own)) ≤ entryLimit
+spelled-room list first own n w h = rw (put-front w h) (spelled-ends list)
+
+pub plain-room : (list : List ℕ) → Good ≡ checkedOf (ownList list) → length (endsOf list) ≤ entryLimit
+plain-room list e = good-ends list (good-zero list e)
 
 -- by the list as it was spelled into a buffer
 pub answer-spelled : (s list old new : List ℕ) (r : Stripped) (first own : List ℕ) (n : ℕ) → Put first 0 (spelledList (ownList list .items)) own n → n ≤ length first

@@ -1,3 +1,4 @@
+pub mod Spans
 pub mod Goes
 pub mod Sifting
 pub mod Ends

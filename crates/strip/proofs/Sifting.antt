@@ -1,24 +1,28 @@
 -- The loop over the fields: what is left of the block answers as the whole, and one turn. Assumes nothing.
-use Prim.Native.Nat.{ℕ, _+_, _-_, _≤_, zero-le}
+use Prim.Native.Nat.{ℕ, zero, suc, _+_, _-_, _≤_, _<_, zero-le}
+use native.Mathlib.Numerals.{add-one}
 use native.Mathlib.Nat.{zero-add}
 use native.Mathlib.Omega.{arith}
 use mathlib.Core.Path.{_≡_, refl, sym, ap, _∙_}
 use mathlib.Core.Bool.{Bool, true, false, not, _&&_}
-use mathlib.Core.List.{List, [], _∷_}
-use lib.ListN.{length, drop, take, length-append}
+use mathlib.Core.List.{List, [], _∷_, _++_, append-assoc, append-nil}
+use lib.ListN.{length, getD, set, drop, take, length-append, length-set}
+use lib.Seq.{take-add, drop-drop, getD-set-same, getD-set-other}
 use Rattle.sequences.specs.Stored.{Put}
 use Rattle.sequences.proofs.Booleans.{true-not, false-not}
 use Rattle.sequences.proofs.Splices.{Left, left-start, left-step, left-done, put-wrote}
 use Rattle.reading.specs.Texts.{bytes}
+use Rattle.reading.specs.Walks.{Walked}
 use Rattle.lexis_rules.specs.Bytes.{alike}
 use Rattle.block.specs.declared.Next.the-variants.{Field, End, Refused}
 use Rattle.block_rules.specs.Fields as blocks
 use Rattle.block_rules.specs.Fields.{named, bodyOf, bytesOf, select}
 use Rattle.block.specs.Steps.{nextFrom}
-use Rattle.block_rules.proofs.Fields.{select-yes, select-no}
+use Rattle.block_rules.proofs.Fields.{select-yes, select-no, select-sum, fields-fine}
 use Rattle.block.proofs.Steps.{Rest, fieldFrom, Cut, step-field, step-end, step-refused, part-bytes, part-name, part-body}
 use Rattle.strip_rules.specs.Strip.{oursOrUnreadable, isRemoved, keptOf, removedOf}
-use Rattle.strip.specs.Internal.{Sifted}
+use Rattle.authserv_rules.specs.Ends.{span}
+use Rattle.strip.specs.Internal.{Sifted, lastEnd, fronts, Marked}
 
 -- a field that goes, and one that stays
 module _ (listed : List ℕ → Bool) (f : blocks.Field) (fs : List blocks.Field) where
@@ -37,23 +41,23 @@ module _ (listed : List ℕ → Bool) (f : blocks.Field) (fs : List blocks.Field
 abbrev pub All : List ℕ → List blocks.Field
 All s = blocks.fields s .items
 
--- the loop stands at a place, after so many fields: what is left answers as the whole
-pub record Sifting (s : List ℕ) (listed : List ℕ → Bool) (old out : List ℕ) (at count kept removed fields : ℕ) : Type 0 where
+-- a loop stands at a place, after so many fields: what is left answers as the whole, and what was summed up is what lacks
+pub record Summing (s : List ℕ) (listed : List ℕ → Bool) (at count kept removed fields : ℕ) : Type 0 where
   pub number : Rest s at count .number ≡ blocks.fields s .number
   pub place : Rest s at count .place ≡ blocks.fields s .place
-  pub left : Left old 0 (bytesOf (keptOf listed (All s))) out kept (bytesOf (keptOf listed (Rest s at count .items)))
+  pub held : kept + length (bytesOf (keptOf listed (Rest s at count .items))) ≡ length (bytesOf (keptOf listed (All s)))
   pub taken : removed + length (bytesOf (removedOf listed (Rest s at count .items))) ≡ length (bytesOf (removedOf listed (All s)))
   pub some : fields + length (removedOf listed (Rest s at count .items)) ≡ length (removedOf listed (All s))
   pub inside : at ≤ length s
   pub small : kept + removed ≤ at
   pub few : fields ≤ at
 
-pub put-kept-start : (s : List ℕ) (listed : List ℕ → Bool) (old : List ℕ) → Sifting s listed old old 0 0 0 0 0
-put-kept-start s listed old =
+sums-start : (s : List ℕ) (listed : List ℕ → Bool) → Summing s listed 0 0 0 0 0
+sums-start s listed =
     record {
       number = refl;
       place = refl;
-      left = left-start _ _ _;
+      held = zero-add _;
       taken = zero-add _;
       some = zero-add _;
       inside = zero-le;
@@ -61,17 +65,117 @@ put-kept-start s listed old =
       few = omega arith;
     }
 
+-- a field by its places
+module _ (s : List ℕ) (at count a n b e : ℕ) (q : Field a n b e ≡ nextFrom at count (drop at s)) where
+  cut : Cut s at count a n b e
+  cut = step-field s at count a n b e q
+
+  pub bytes-long : length (take (e - a) (drop a s)) ≡ e - a
+  bytes-long = let c = cut in part-bytes s a n b e (c .named) (c .labelled) (c .bodied) (c .inside)
+
+  module _ (listed : List ℕ → Bool) (r : Bool)
+      (h : r ≡ (alike (take (n - a) (drop a s)) (bytes "Authentication-Results") && oursOrUnreadable listed (take (e - 2 - b) (drop b s)))) where
+    going : r ≡ isRemoved listed (fieldFrom s a n b e)
+    unfolding isRemoved named
+    going =
+        let c = cut in
+        let x = part-name s a n b e (c .named) (c .labelled) (c .bodied) (c .inside) in
+        let y = part-body s a n b e (c .named) (c .labelled) (c .bodied) (c .inside) in
+        h
+        ∙ sym (ap (λ (t : List ℕ). alike t (bytes "Authentication-Results") && oursOrUnreadable listed (bodyOf (fieldFrom s a n b e))) x
+        ∙ ap (λ (t : List ℕ). alike (take (n - a) (drop a s)) (bytes "Authentication-Results") && oursOrUnreadable listed t) y)
+
+    -- what is left of the kept and of the removed fields
+    abbrev behind : List blocks.Field
+    behind = Rest s e (count + 1) .items
+
+    goes : r ≡ true → (keptOf listed (Rest s at count .items) ≡ keptOf listed behind) × (removedOf listed (Rest s at count .items) ≡ fieldFrom s a n b e ∷ removedOf listed behind)
+    goes z =
+        let g : isRemoved listed (fieldFrom s a n b e) ≡ true = sym going ∙ z in
+        (ap (λ (x : Walked blocks.Field). keptOf listed (x .items)) (cut .more) ∙ stays-yes listed (fieldFrom s a n b e) behind g, ap (λ (x : Walked blocks.Field). removedOf listed (x .items)) (cut .more) ∙ gone-yes listed (fieldFrom s a n b e) behind g)
+
+    stays : r ≡ false → (keptOf listed (Rest s at count .items) ≡ fieldFrom s a n b e ∷ keptOf listed behind) × (removedOf listed (Rest s at count .items) ≡ removedOf listed behind)
+    stays z =
+        let g : isRemoved listed (fieldFrom s a n b e) ≡ false = sym going ∙ z in
+        (ap (λ (x : Walked blocks.Field). keptOf listed (x .items)) (cut .more) ∙ stays-no listed (fieldFrom s a n b e) behind g, ap (λ (x : Walked blocks.Field). removedOf listed (x .items)) (cut .more) ∙ gone-no listed (fieldFrom s a n b e) behind g)
+
+    kept-bytes : r ≡ false → bytesOf (keptOf listed (Rest s at count .items)) ≡ take (e - a) (drop a s) ++ bytesOf (keptOf listed behind)
+    unfolding bytesOf
+    kept-bytes z = rw (stays z .0)
+
+    module _ (kept removed fields : ℕ) (w : Summing s listed at count kept removed fields) where
+      sums-gone : r ≡ true → Summing s listed e (count + 1) kept (removed + (e - a)) (fields + 1)
+      unfolding bytesOf
+      sums-gone z =
+          let c = cut in
+          let t = rw (goes z .1) at (w .taken) in
+          let u = rw (goes z .1) at (w .some) in
+          record {
+            number = rw (c .more) at (w .number);
+            place = rw (c .more) at (w .place);
+            held = rw (goes z .0) at (w .held);
+            taken = omega (arith, t, bytes-long, length-append (take (e - a) (drop a s)) (bytesOf (removedOf listed behind)));
+            some = omega (arith, u);
+            inside = c .inside;
+            small = omega (arith, w .small, c .start, c .named, c .labelled, c .bodied);
+            few = omega (arith, w .few, c .start, c .named, c .labelled, c .bodied);
+          }
+
+      sums-kept : r ≡ false → (m : ℕ) → m ≡ e - a → Summing s listed e (count + 1) (kept + m) removed fields
+      sums-kept z m k =
+          let c = cut in
+          record {
+            number = rw (c .more) at (w .number);
+            place = rw (c .more) at (w .place);
+            held = omega (arith, w .held, ap (λ (t : List ℕ). length t) (kept-bytes z), bytes-long, length-append (take (e - a) (drop a s)) (bytesOf (keptOf listed behind)));
+            taken = rw (stays z .1) at (w .taken);
+            some = rw (stays z .1) at (w .some);
+            inside = c .inside;
+            small = omega (arith, k, w .small, c .start, c .named, c .labelled, c .bodied);
+            few = omega (arith, w .few, c .start, c .named, c .labelled, c .bodied);
+          }
+
+-- nothing is left: the refusal and the sums are those of the whole
+module _ (s : List ℕ) (listed : List ℕ → Bool) (at count kept removed fields : ℕ) (w : Summing s listed at count kept removed fields) (n p : ℕ)
+    (e : Rest s at count ≡ record { items = []; number = n; place = p }) where
+  end-number : n ≡ blocks.fields s .number
+  end-number = rw e at (w .number)
+
+  end-place : p ≡ blocks.fields s .place
+  end-place = rw e at (w .place)
+
+  end-held : kept ≡ length (bytesOf (keptOf listed (All s)))
+  unfolding select bytesOf
+  end-held = let z = rw e at (w .held) in omega (arith, z)
+
+  end-taken : removed ≡ length (bytesOf (removedOf listed (All s)))
+  unfolding select bytesOf
+  end-taken = let z = rw e at (w .taken) in omega (arith, z)
+
+  end-some : fields ≡ length (removedOf listed (All s))
+  unfolding select
+  end-some = let z = rw e at (w .some) in omega (arith, z)
+
+-- ==== the loop that writes
+
+pub record Sifting (s : List ℕ) (listed : List ℕ → Bool) (old out : List ℕ) (at count kept removed fields : ℕ) : Type 0 where
+  pub sums : Summing s listed at count kept removed fields
+  pub left : Left old 0 (bytesOf (keptOf listed (All s))) out kept (bytesOf (keptOf listed (Rest s at count .items)))
+
+pub put-kept-start : (s : List ℕ) (listed : List ℕ → Bool) (old : List ℕ) → Sifting s listed old old 0 0 0 0 0
+put-kept-start s listed old = record { sums = sums-start s listed; left = left-start _ _ _ }
+
 module _ (s : List ℕ) (listed : List ℕ → Bool) (old out : List ℕ) (at count kept removed fields : ℕ) (w : Sifting s listed old out at count kept removed fields) where
   put-kept-ended : (n p : ℕ) → Rest s at count ≡ record { items = []; number = n; place = p }
       → Sifted s listed old out (record { number = n; place = p; kept = kept; removed = removed; fields = fields })
   unfolding select bytesOf
   put-kept-ended n p e =
       record {
-        number = rw e at (w .number);
-        place = rw e at (w .place);
+        number = end-number s listed at count kept removed fields (w .sums) n p e;
+        place = end-place s listed at count kept removed fields (w .sums) n p e;
         wrote = left-done (w .left) (rw e);
-        removed = let z = rw e at (w .taken) in omega (arith, z);
-        fields = let z = rw e at (w .some) in omega (arith, z);
+        removed = end-taken s listed at count kept removed fields (w .sums) n p e;
+        fields = end-some s listed at count kept removed fields (w .sums) n p e;
       }
 
   pub put-kept-end : End ≡ nextFrom at count (drop at s) → Sifted s listed old out (record { number = 0; place = 0; kept = kept; removed = removed; fields = fields })
@@ -81,55 +185,142 @@ module _ (s : List ℕ) (listed : List ℕ → Bool) (old out : List ℕ) (at co
       → Sifted s listed old out (record { number = n; place = p; kept = kept; removed = removed; fields = fields })
   put-kept-refused n p e = put-kept-ended n p (step-refused s at count n p e)
 
-  module _ (a n b e : ℕ) (q : Field a n b e ≡ nextFrom at count (drop at s)) where
-    cut : Cut s at count a n b e
-    cut = step-field s at count a n b e q
+  module _ (a n b e : ℕ) (q : Field a n b e ≡ nextFrom at count (drop at s)) (r : Bool)
+      (h : r ≡ (alike (take (n - a) (drop a s)) (bytes "Authentication-Results") && oursOrUnreadable listed (take (e - 2 - b) (drop b s)))) where
+    pub put-kept-gone : r ≡ true → Sifting s listed old out e (count + 1) kept (removed + (e - a)) (fields + 1)
+    put-kept-gone z =
+        record {
+          sums = sums-gone s at count a n b e q listed r h kept removed fields (w .sums) z;
+          left = rw (goes s at count a n b e q listed r h z .0) at (w .left);
+        }
 
-    pub bytes-long : length (take (e - a) (drop a s)) ≡ e - a
-    bytes-long = let c = cut in part-bytes s a n b e (c .named) (c .labelled) (c .bodied) (c .inside)
+    pub put-kept-kept : r ≡ false → (out′ : List ℕ) (m : ℕ) → Put out kept (take (e - a) (drop a s)) out′ m → Sifting s listed old out′ e (count + 1) (kept + m) removed fields
+    put-kept-kept z out′ m v =
+        record {
+          sums = sums-kept s at count a n b e q listed r h kept removed fields (w .sums) z m (v .count ∙ bytes-long s at count a n b e q);
+          left = left-step (rw (kept-bytes s at count a n b e q listed r h z) at (w .left)) refl (put-wrote v);
+        }
 
-    going : isRemoved listed (fieldFrom s a n b e) ≡ (alike (take (n - a) (drop a s)) (bytes "Authentication-Results") && oursOrUnreadable listed (take (e - 2 - b) (drop b s)))
-    unfolding isRemoved named
-    going =
-        let c = cut in
-        let x = part-name s a n b e (c .named) (c .labelled) (c .bodied) (c .inside) in
-        let y = part-body s a n b e (c .named) (c .labelled) (c .bodied) (c .inside) in
-        ap (λ (t : List ℕ). alike t (bytes "Authentication-Results") && oursOrUnreadable listed (bodyOf (fieldFrom s a n b e))) x
-        ∙ ap (λ (t : List ℕ). alike (take (n - a) (drop a s)) (bytes "Authentication-Results") && oursOrUnreadable listed t) y
+-- ==== the loop that marks
 
-    module _ (r : Bool) (h : r ≡ (alike (take (n - a) (drop a s)) (bytes "Authentication-Results") && oursOrUnreadable listed (take (e - 2 - b) (drop b s)))) where
-      pub put-kept-gone : r ≡ true → Sifting s listed old out e (count + 1) kept (removed + (e - a)) (fields + 1)
-      unfolding bytesOf
-      put-kept-gone z =
-          let c = cut in
-          let g : isRemoved listed (fieldFrom s a n b e) ≡ true = going ∙ sym h ∙ z in
-          let fs = Rest s e (count + 1) .items in
-          let t = rw (c .more, gone-yes listed (fieldFrom s a n b e) fs g) at (w .taken) in
-          let u = rw (c .more, gone-yes listed (fieldFrom s a n b e) fs g) at (w .some) in
-          record {
-            number = rw (c .more) at (w .number);
-            place = rw (c .more) at (w .place);
-            left = rw (c .more, stays-yes listed (fieldFrom s a n b e) fs g) at (w .left);
-            taken = omega (arith, t, bytes-long, length-append (take (e - a) (drop a s)) (bytesOf (removedOf listed fs)));
-            some = omega (arith, u);
-            inside = c .inside;
-            small = omega (arith, w .small, c .start, c .named, c .labelled, c .bodied);
-            few = omega (arith, w .few, c .start, c .named, c .labelled, c .bodied);
-          }
+-- places that were kept before the f-th are those of the first f fields
+module _ (s starts ends : List ℕ) (f a e : ℕ) where
+  last-set : (k : ℕ) → k ≤ f → lastEnd (set ends f e) k ≡ lastEnd ends k
+  unfolding lastEnd
+  last-set zero h = refl
+  last-set (suc k) h = getD-set-other ends f k e 0 (λ z. omega arith)
 
-      pub put-kept-kept : r ≡ false → (out′ : List ℕ) (m : ℕ) → Put out kept (take (e - a) (drop a s)) out′ m → Sifting s listed old out′ e (count + 1) (kept + m) removed fields
-      unfolding bytesOf
-      put-kept-kept z out′ m v =
-          let c = cut in
-          let g : isRemoved listed (fieldFrom s a n b e) ≡ false = going ∙ sym h ∙ z in
-          let fs = Rest s e (count + 1) .items in
-          record {
-            number = rw (c .more) at (w .number);
-            place = rw (c .more) at (w .place);
-            left = left-step (rw (c .more, stays-no listed (fieldFrom s a n b e) fs g) at (w .left)) refl (put-wrote v);
-            taken = rw (c .more, gone-no listed (fieldFrom s a n b e) fs g) at (w .taken);
-            some = rw (c .more, gone-no listed (fieldFrom s a n b e) fs g) at (w .some);
-            inside = c .inside;
-            small = omega (arith, v .count, bytes-long, w .small, c .start, c .named, c .labelled, c .bodied);
-            few = omega (arith, w .few, c .start, c .named, c .labelled, c .bodied);
-          }
+  fronts-set : (k : ℕ) → k ≤ f → fronts s (set starts f a) (set ends f e) k ≡ fronts s starts ends k
+  unfolding fronts
+  fronts-set zero h = refl
+  fronts-set (suc k) h =
+      let x : getD (set starts f a) k 0 ≡ getD starts k 0 = getD-set-other starts f k a 0 (λ z. omega arith) in
+      rw (fronts, fronts-set k (omega arith), last-set k (omega arith), x)
+
+  last-more : f < length ends → lastEnd (set ends f e) (suc f) ≡ e
+  unfolding lastEnd
+  last-more h = getD-set-same ends f e 0 h
+
+  fronts-more : f < length starts → fronts s (set starts f a) (set ends f e) (suc f) ≡ fronts s starts ends f ++ span s (lastEnd ends f) a
+  unfolding fronts
+  fronts-more h = rw (fronts, fronts-set f (omega arith), last-set f (omega arith), getD-set-same starts f a 0 h)
+
+-- the bytes up to a place and those behind it
+pub span-more : (s : List ℕ) (a b c : ℕ) → a ≤ b → b ≤ c → span s a b ++ span s b c ≡ span s a c
+span-more s a b c h k =
+    let d : drop b s ≡ drop (b - a) (drop a s) = let o : a + (b - a) ≡ b = omega arith in rw (drop-drop, o) in
+    let o : c - a ≡ b - a + (c - b) = omega arith in
+    rw (o, take-add (b - a) (c - b) (drop a s), ← d)
+
+-- what stands between the fields that went so far, and behind the last of them up to the loop's place
+pub record Whole (s : List ℕ) (listed : List ℕ → Bool) (starts ends : List ℕ) (at count fields : ℕ) : Type 0 where
+  pub last : lastEnd ends fields ≤ at
+  pub bytes : bytesOf (keptOf listed (All s)) ≡ fronts s starts ends fields ++ (span s (lastEnd ends fields) at ++ bytesOf (keptOf listed (Rest s at count .items)))
+
+pub record Marking (s : List ℕ) (listed : List ℕ → Bool) (starts₀ ends₀ starts ends : List ℕ) (at count kept removed fields : ℕ) : Type 0 where
+  pub sums : Summing s listed at count kept removed fields
+  pub starts-long : length starts ≡ length starts₀
+  pub ends-long : length ends ≡ length ends₀
+  pub whole : fields ≤ length starts → fields ≤ length ends → Whole s listed starts ends at count fields
+
+pub mark-start : (s : List ℕ) (listed : List ℕ → Bool) (starts ends : List ℕ) → Marking s listed starts ends starts ends 0 0 0 0 0
+unfolding lastEnd fronts
+mark-start s listed starts ends =
+    record { sums = sums-start s listed; starts-long = refl; ends-long = refl; whole = λ h k. record { last = zero-le; bytes = refl } }
+
+module _ (s : List ℕ) (listed : List ℕ → Bool) (starts₀ ends₀ starts ends : List ℕ) (at count kept removed fields : ℕ)
+    (w : Marking s listed starts₀ ends₀ starts ends at count kept removed fields) where
+  -- a walk without a refusal has come to the end of the block, since kept and removed bytes make the block
+  mark-ended : (n p : ℕ) → Rest s at count ≡ record { items = []; number = n; place = p }
+      → Marked s listed starts ends (record { number = n; place = p; kept = kept; removed = removed; fields = fields })
+  unfolding select bytesOf
+  mark-ended n p e =
+      let x = end-number s listed at count kept removed fields (w .sums) n p e in
+      let y = end-held s listed at count kept removed fields (w .sums) n p e in
+      let z = end-taken s listed at count kept removed fields (w .sums) n p e in
+      record {
+        number = x;
+        place = end-place s listed at count kept removed fields (w .sums) n p e;
+        kept = y;
+        removed = z;
+        whole = λ o h k.
+            let f = fields-fine s (sym x ∙ o) in
+            let full : at ≡ length s = omega (arith, w .sums .inside, w .sums .small, y, z, select-sum (isRemoved listed) (All s), ap (λ (t : List ℕ). length t) (f .bytes)) in
+            w .whole h k .bytes ∙ rw (e, full) (ap (_++_ (fronts s starts ends fields)) (append-nil (span s (lastEnd ends fields) (length s))));
+        fields = end-some s listed at count kept removed fields (w .sums) n p e;
+      }
+
+  pub mark-end : End ≡ nextFrom at count (drop at s) → Marked s listed starts ends (record { number = 0; place = 0; kept = kept; removed = removed; fields = fields })
+  mark-end e = mark-ended 0 0 (step-end s at count e)
+
+  pub mark-refused : (n p : ℕ) → Refused n p ≡ nextFrom at count (drop at s)
+      → Marked s listed starts ends (record { number = n; place = p; kept = kept; removed = removed; fields = fields })
+  mark-refused n p e = mark-ended n p (step-refused s at count n p e)
+
+  module _ (a n b e : ℕ) (q : Field a n b e ≡ nextFrom at count (drop at s)) (r : Bool)
+      (h : r ≡ (alike (take (n - a) (drop a s)) (bytes "Authentication-Results") && oursOrUnreadable listed (take (e - 2 - b) (drop b s)))) where
+    pub mark-kept : r ≡ false → Marking s listed starts₀ ends₀ starts ends e (count + 1) (kept + (e - a)) removed fields
+    mark-kept z =
+        let c = cut s at count a n b e q in
+        record {
+          sums = sums-kept s at count a n b e q listed r h kept removed fields (w .sums) z (e - a) refl;
+          starts-long = w .starts-long;
+          ends-long = w .ends-long;
+          whole = λ i j.
+              let v = w .whole i j in
+              let l = lastEnd ends fields in
+              let rest = bytesOf (keptOf listed (Rest s e (count + 1) .items)) in
+              let x : span s l at ++ span s a e ≡ span s l e = rw (c .start) (span-more s l at e (v .last) (omega (arith, c .start, c .named, c .labelled, c .bodied))) in
+              let m : span s l at ++ (span s a e ++ rest) ≡ span s l e ++ rest = sym (append-assoc (span s l at) (span s a e) rest) ∙ ap (λ (t : List ℕ). t ++ rest) x in
+              record {
+                last = omega (arith, v .last, c .start, c .named, c .labelled, c .bodied);
+                bytes = v .bytes ∙ ap (_++_ (fronts s starts ends fields)) (ap (_++_ (span s l at)) (kept-bytes s at count a n b e q listed r h z) ∙ m);
+              };
+        }
+
+    pub mark-gone : r ≡ true → (starts′ ends′ : List ℕ) → starts′ ≡ set starts fields a → ends′ ≡ set ends fields e
+        → Marking s listed starts₀ ends₀ starts′ ends′ e (count + 1) kept (removed + (e - a)) (fields + 1)
+    mark-gone z starts′ ends′ x y =
+        record {
+          sums = sums-gone s at count a n b e q listed r h kept removed fields (w .sums) z;
+          starts-long = rw (x, length-set) (w .starts-long);
+          ends-long = rw (y, length-set) (w .ends-long);
+          whole = λ i j. rw (x, y, add-one count, add-one fields) (gone (rw (x, length-set) at i) (rw (y, length-set) at j));
+        }
+      where
+        c : Cut s at count a n b e
+        c = cut s at count a n b e q
+
+        gone : fields + 1 ≤ length starts → fields + 1 ≤ length ends → Whole s listed (set starts fields a) (set ends fields e) e (suc count) (suc fields)
+        gone i j =
+            let v = w .whole (omega arith) (omega arith) in
+            let l = lastEnd ends fields in
+            let front = fronts s starts ends fields in
+            let rest = bytesOf (keptOf listed (Rest s e (count + 1) .items)) in
+            let o : e - e ≡ 0 = omega arith in
+            let f : fronts s (set starts fields a) (set ends fields e) (suc fields) ≡ front ++ span s l a = fronts-more s starts ends fields a e (omega arith) in
+            let k : lastEnd (set ends fields e) (suc fields) ≡ e = last-more s starts ends fields a e (omega arith) in
+            let u : bytesOf (keptOf listed (Rest s at count .items)) ≡ rest = ap bytesOf (goes s at count a n b e q listed r h z .0) in
+            let m : front ++ (span s l at ++ bytesOf (keptOf listed (Rest s at count .items))) ≡ (front ++ span s l at) ++ rest =
+            sym (append-assoc front (span s l at) _) ∙ ap (_++_ (front ++ span s l at)) u in
+            record { last = rw k (omega arith); bytes = rw (f, k, o, c .start, ← add-one count) (v .bytes ∙ m) }

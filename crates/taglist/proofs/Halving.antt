@@ -9,22 +9,19 @@ use mathlib.Core.Path.{_≡_, refl, sym, ap, _∙_}
 use mathlib.Core.Bool.{Bool, true, false, _||_}
 use mathlib.Core.Logic.{⊎-elim}
 use mathlib.Core.List.{List, [], _∷_, _++_, map, append-assoc}
-use borrow.Author.Tests.{ltb-true, lt-ltb}
-use lib.Dec.{ltb}
 use lib.ListN.{length, getD, set, take, drop, length-append, length-drop, length-set, length-map, drop-of-length-le}
 use lib.Seq.{take-take, take-at, length-take-le, getD-take, drop-cons, take-suc, drop-append-le, take-set-le, drop-set-lt, getD-set-same, set-split}
 use Rattle.sequences.proofs.Booleans.{and-left, and-right}
 use Rattle.sequences.proofs.Lists.{drop-take}
 use Rattle.reading.specs.Texts.{same}
-use Rattle.reading.specs.Readers.{run}
-use Rattle.reading.proofs.Readers.{run-fits}
-use Rattle.reading.proofs.Loops.{room-at}
-use Rattle.taglist.specs.declared.seen.Order.{Order}
-use Rattle.taglist.specs.declared.seen.Order.the-variants.{Before, Same, After}
+use Rattle.tagnames.specs.declared.Order.{Order}
+use Rattle.tagnames.specs.declared.Order.the-variants.{Before, Same, After}
 use Rattle.taglist.specs.declared.seen.Slot.the-variants.{Taken, Free}
-use Rattle.arc_rules.specs.Tags.{inTagName}
-use Rattle.taglist.specs.Internal.{compared, nameAt, kept, isBefore, beforeAll, ordered, allBelow, Kept, holds, slotFor, insertedAt}
-use Rattle.taglist.proofs.Ordering.{compared-flip, compared-same, compared-trans, before-is, before-more, flipped, no-free, free-is, free-within}
+use Rattle.tagnames.specs.Names.{nameAt, Named, compared, comparedAt, isBefore, holds}
+use Rattle.tagnames.proofs.Ordering.{flipped, compared-flip, compared-same, compared-trans}
+use Rattle.tagnames.proofs.Fronts.{compared-front}
+use Rattle.taglist.specs.Internal.{kept, beforeAll, ordered, Kept, slotFor, insertedAt}
+use Rattle.taglist.proofs.Slots.{before-is, before-more, no-free, free-is, free-within}
 
 -- ==== names by their number
 
@@ -40,12 +37,6 @@ kept-at : (s t : List ℕ) (n k : ℕ) → n ≤ length t → k < n → getD (ke
 kept-at s t n k h l =
     let m : k < length (take n t) = rw (length-take-le n t h) l in
     getD-mapped (nameAt s) (take n t) k 0 [] m ∙ ap (nameAt s) (getD-take n t k 0 l)
-
-below-at : (n : ℕ) (ps : List ℕ) (k : ℕ) → allBelow n ps ≡ true → k < length ps → getD ps k 0 < n
-unfolding allBelow
-below-at n [] k e h = absurd (not-suc-le-zero h)
-below-at n (p ∷ ps) zero e h = ltb-true p n (and-left (ltb p n) (allBelow n ps) e)
-below-at n (p ∷ ps) (suc k) e h = below-at n ps k (and-right (ltb p n) (allBelow n ps) e) (le-of-suc-le-suc h)
 
 before-at : (n : List ℕ) (ks : List (List ℕ)) (k : ℕ) → beforeAll n ks ≡ true → k < length ks → compared n (getD ks k []) ≡ Before
 unfolding beforeAll
@@ -82,7 +73,7 @@ pub record Halved (s t : List ℕ) (count : ℕ) (n : List ℕ) (lo hi : ℕ) : 
   pub above : (k : ℕ) → hi ≤ k → k < count → compared (getD (kept s t count) k []) n ≡ After
 
 module _ (s t : List ℕ) (count : ℕ) (n : List ℕ) where
-  pub halved-start : Kept s t count → Halved s t count n 0 count
+  halved-start : Kept s t count → Halved s t count n 0 count
   halved-start w =
       record {
         within = zero-le;
@@ -95,20 +86,8 @@ module _ (s t : List ℕ) (count : ℕ) (n : List ℕ) where
   module _ (lo hi : ℕ) (v : Kept s t count) (w : Halved s t count n lo hi) where
     module _ (m : ℕ) (l : lo ≤ m) (h : m < hi) where
       -- the name in the middle
-      middle-in : (p : ℕ) → p ≡ getD t m 0 → p < length s
-      middle-in p q =
-          let f = w .fits in
-          let u : m < length (take count t) = rw (length-take-le count t (w .room)) (omega arith) in
-          let x : getD (take count t) m 0 ≡ p = getD-take count t m 0 (omega (arith, f)) ∙ sym q in
-          rw (← x) (below-at (length s) (take count t) m (v .places) u)
-
-      middle-end : (p e : ℕ) → p ≡ getD t m 0 → e ≡ p + run inTagName (drop p s) → (p ≤ e) × (e ≤ length s)
-      middle-end p e q r = let i = middle-in p q in let f = room-at (run inTagName) (run-fits inTagName) s p in (omega arith, omega (arith, i, f))
-
-      middle-name : (p e : ℕ) → p ≡ getD t m 0 → e ≡ p + run inTagName (drop p s) → take (e - p) (drop p s) ≡ getD (kept s t count) m []
-      middle-name p e q r =
-          let d : e - p ≡ run inTagName (drop p s) = omega arith in
-          rw (d, q) (sym (kept-at s t count m (w .room) (omega (arith, w .fits))))
+      middle-name : (p : ℕ) → p ≡ getD t m 0 → nameAt s p ≡ getD (kept s t count) m []
+      middle-name p q = ap (nameAt s) q ∙ sym (kept-at s t count m (w .room) (omega (arith, w .fits)))
 
       module _ (o : Order) (q : o ≡ compared (getD (kept s t count) m []) n) where
         before-middle : (k : ℕ) → k < m → compared (getD (kept s t count) k []) (getD (kept s t count) m []) ≡ Before
@@ -157,7 +136,7 @@ module _ (s t : List ℕ) (count : ℕ) (n : List ℕ) where
             let y : slotFor 0 ks n ≡ slotFor (0 + m) (drop m ks) n = slot-past 0 ks n m (omega arith) (λ k i. rw x at (before-middle k i)) in
             sym (y ∙ rw (drop-cons ks m [] z, slotFor, sym q ∙ e))
 
-    pub halved-free : hi ≤ lo → Free lo ≡ slotFor 0 (kept s t count) n
+    halved-free : hi ≤ lo → Free lo ≡ slotFor 0 (kept s t count) n
     unfolding slotFor
     halved-free h =
         let ks = kept s t count in
@@ -175,24 +154,30 @@ module _ (s t : List ℕ) (count : ℕ) (n : List ℕ) where
             let z : lo < length (kept s t count) = rw (kept-length s t count (w .room)) i in
             sym (y ∙ rw (drop-cons (kept s t count) lo [] z, slotFor, w .above lo h i, zero-add))
 
--- what one turn of it asks and says
-module _ (s t : List ℕ) (count : ℕ) (n : List ℕ) (lo hi : ℕ) (v : Kept s t count) (w : Halved s t count n lo hi) (g : lo < hi) where
-  module _ (p e : ℕ) (q : p ≡ getD t (lo + (hi - lo) / 2) 0) (r : e ≡ p + run inTagName (drop p s)) where
-    pub turn-inside : e ≤ length s
-    turn-inside = middle-end s t count n lo hi v w (lo + (hi - lo) / 2) (omega arith) (omega arith) p e q r .1
+-- what one turn of it says
+module _ (s t : List ℕ) (count : ℕ) (n : List ℕ) (lo hi : ℕ) (v : Kept s t count × Named n) (w : Halved s t count n lo hi) (g : lo < hi) where
+  module _ (p : ℕ) (q : p ≡ getD t (lo + (hi - lo) / 2) 0) (o : Order) (f : o ≡ comparedAt (drop p s) n) where
+    told : o ≡ compared (getD (kept s t count) (lo + (hi - lo) / 2) []) n
+    told =
+        f
+        ∙ (compared-front (drop p s) n (v .1)
+        ∙ ap (λ (k : List ℕ). compared k n) (middle-name s t count n lo hi (v .0) w (lo + (hi - lo) / 2) (omega arith) (omega arith) p q))
 
-    module _ (o : Order) (f : o ≡ compared (take (e - p) (drop p s)) n) where
-      told : o ≡ compared (getD (kept s t count) (lo + (hi - lo) / 2) []) n
-      told = rw (← middle-name s t count n lo hi v w (lo + (hi - lo) / 2) (omega arith) (omega arith) p e q r) f
+    pub turn-up : o ≡ Before → Halved s t count n (lo + (hi - lo) / 2 + 1) hi
+    turn-up = halved-up s t count n lo hi (v .0) w (lo + (hi - lo) / 2) (omega arith) (omega arith) o told
 
-      pub turn-up : o ≡ Before → Halved s t count n (lo + (hi - lo) / 2 + 1) hi
-      turn-up = halved-up s t count n lo hi v w (lo + (hi - lo) / 2) (omega arith) (omega arith) o told
+    pub turn-down : o ≡ After → Halved s t count n lo (lo + (hi - lo) / 2)
+    turn-down = halved-down s t count n lo hi (v .0) w (lo + (hi - lo) / 2) (omega arith) (omega arith) o told
 
-      pub turn-down : o ≡ After → Halved s t count n lo (lo + (hi - lo) / 2)
-      turn-down = halved-down s t count n lo hi v w (lo + (hi - lo) / 2) (omega arith) (omega arith) o told
+    pub turn-same : o ≡ Same → Taken ≡ slotFor 0 (kept s t count) n
+    turn-same = halved-same s t count n lo hi (v .0) w (lo + (hi - lo) / 2) (omega arith) (omega arith) o told
 
-      pub turn-same : o ≡ Same → Taken ≡ slotFor 0 (kept s t count) n
-      turn-same = halved-same s t count n lo hi v w (lo + (hi - lo) / 2) (omega arith) (omega arith) o told
+pub search-start : (s t : List ℕ) (count : ℕ) (n : List ℕ) → Kept s t count × Named n → Halved s t count n 0 count
+search-start s t count n v = halved-start s t count n (v .0)
+
+pub search-free : (s t : List ℕ) (count : ℕ) (n : List ℕ) (lo hi : ℕ) → Kept s t count × Named n → Halved s t count n lo hi → hi ≤ lo
+    → Free lo ≡ slotFor 0 (kept s t count) n
+search-free s t count n lo hi v w h = halved-free s t count n lo hi (v .0) w h
 
 -- ==== the loop that makes room
 
@@ -256,13 +241,6 @@ map-between : {A B : Type 0} (f : A → B) (i : ℕ) (x : A) (l : List A) → ma
 map-between f zero x l = refl
 map-between f (suc i) x [] = refl
 map-between {B} f (suc i) x (y ∷ l) = ap (λ (k : List B). f y ∷ k) (map-between f i x l)
-
-below-between : (n i p : ℕ) (l : List ℕ) → p < n → allBelow n l ≡ true → allBelow n (between i p l) ≡ true
-unfolding allBelow
-below-between n zero p l h e = rw (lt-ltb p n h) e
-below-between n (suc i) p [] h e = rw (lt-ltb p n h)
-below-between n (suc i) p (x ∷ l) h e =
-    rw (and-left (ltb x n) (allBelow n l) e) (below-between n i p l h (and-right (ltb x n) (allBelow n l) e))
 
 before-between : (k : List ℕ) (i : ℕ) (n : List ℕ) (ks : List (List ℕ)) → compared k n ≡ Before → beforeAll k ks ≡ true → beforeAll k (between i n ks) ≡ true
 unfolding beforeAll
@@ -334,12 +312,11 @@ module _ (s t : List ℕ) (n i p : ℕ) (l : i ≤ n) (h : n < length t) where
   pub kept-holds : (m : List ℕ) → holds (kept s (insertedAt i n p t) (n + 1)) m ≡ (same (nameAt s p) m || holds (kept s t n) m)
   kept-holds m = rw kept-between (holds-between i (nameAt s p) (kept s t n) m)
 
-  pub kept-more : Kept s t n → p < length s → slotFor 0 (kept s t n) (nameAt s p) ≡ Free i → Kept s (insertedAt i n p t) (n + 1)
-  kept-more w q e =
+  pub kept-more : Kept s t n → slotFor 0 (kept s t n) (nameAt s p) ≡ Free i → Kept s (insertedAt i n p t) (n + 1)
+  kept-more w e =
       let z : i ≡ 0 + i = omega arith in
       record {
         fits = rw (inserted-is i n p t l h) (omega (arith, length-append (between i p (take n t)) (drop (n + 1) t), length-between i n p t l h));
-        places = rw (in-use i n p t l h) (below-between (length s) i p (take n t) q (w .places));
         order = rw kept-between (ordered-between 0 i (kept s t n) (nameAt s p) (w .order) (rw z at e));
       }
 

@@ -1,4 +1,6 @@
-pub mod Ordering
+pub mod Slots
 pub mod Halving
-pub mod TagLists
+pub mod TagsRead
 pub mod Collecting
+pub mod Linking
+pub mod TagLists

@@ -5,18 +5,21 @@ use native.Mathlib.Nat.{le-of-suc-le-suc}
 use native.Mathlib.Omega.{arith}
 use mathlib.Core.Path.{_≡_, refl, sym, _∙_}
 use mathlib.Core.Bool.{Bool, true, false, not, _&&_}
-use mathlib.Core.List.{List, [], _∷_}
+use mathlib.Core.List.{List, [], _∷_, map}
 use mathlib.Core.Option.{none, some}
 use lib.Dec.{eqb, leb, ltb}
-use lib.ListN.{length, drop, replicate, length-drop, length-replicate}
-use borrow.Author.Tests.{eq-eqb, ne-eqb, le-leb, lt-leb, leb-true, leb-false, not-true, not-false, le-ltb, ltb-false}
+use lib.ListN.{length, take, drop, replicate, length-drop, length-replicate}
+use lib.Seq.{length-take-le}
+use borrow.Author.Tests.{le-leb, lt-leb, leb-true, leb-false, le-ltb, ltb-false}
 use Rattle.sequences.proofs.Booleans.{both}
 use Rattle.reading.specs.Texts.{bytes, same}
+use Rattle.reading.specs.Readers.{run}
 use Rattle.reading.specs.Parsers.{Got, nothing, got, Parser, after, end, cons, several}
 use Rattle.reading.specs.Places.{from, values, listAt, endAt}
 use Rattle.reading.specs.Locality.{Within}
 use Rattle.reading.proofs.Places.{goes-on, stops, gives, end-at, end-not}
 use Rattle.reading.proofs.Repeats.{list-is}
+use Rattle.arc_rules.proofs.Opened.{opened}
 use Rattle.taglist.specs.declared.Collected.{Collected}
 use Rattle.taglist.specs.declared.Collected.the-variants.{Sound, Unsound, Full}
 use Rattle.taglist.specs.declared.Attempt.{Attempt}
@@ -27,8 +30,10 @@ use Rattle.lexis_rules.specs.Limits.{byteLimit}
 use Rattle.arc_rules.specs.Tags.{Tag, tag, tags, named, needs, valueNamed, trimmed}
 use Rattle.arc_rules.specs.Sets.{chainValue, sound, signatureTags, isSignature, sealTags, isSeal}
 use Rattle.taglist.specs.Lists.{listTest, listSaid, listedAt, listedSaid}
-use Rattle.taglist.specs.Internal.{kept, Kept, holds, allHeld, endedAt, tagsAt, SoundAt, CollectedAt, sealHeld, attemptIf, AttemptAt, listedAs, cvAfter}
-use Rattle.taglist.proofs.Collecting.{tag-within}
+use Rattle.tagnames.specs.Names.{nameAt, Named, sameAt, holds, heldAt, allAt, sealAt}
+use Rattle.tagnames.proofs.Needed.{same-whole, held-named}
+use Rattle.taglist.specs.Internal.{kept, endedAt, tagsAt, SoundAt, CollectedIf, attemptIf, toldAt, AttemptIf, listedAs, cvAfter}
+use Rattle.taglist.proofs.TagsRead.{tag-within}
 
 -- ==== the end of a list
 
@@ -39,46 +44,38 @@ module _ (s : List ℕ) (at n c : ℕ) where
   pub ended-not : at < length s → Unsound ≡ endedAt s at n c
   ended-not h = rw (endedAt, lt-leb (length s) at h)
 
--- ==== names that are held, by the tests of the code
-
-module _ (ks : List (List ℕ)) (n : List ℕ) (r : Bool) (e : r ≡ holds ks n) where
-  pub held-not : (ns : List (List ℕ)) → not r ≡ true → false ≡ allHeld (n ∷ ns) ks
-  unfolding allHeld
-  held-not ns t = rw (← e, not-true r t)
-
-  pub held-on : (ns : List (List ℕ)) (x : Bool) → not r ≡ false → x ≡ allHeld ns ks → x ≡ allHeld (n ∷ ns) ks
-  unfolding allHeld
-  held-on ns x t q = rw (← e, not-false r t) q
-
-  pub held-last : r ≡ allHeld (n ∷ []) ks
-  unfolding allHeld
-  held-last = go r e
-    where
-      go : (x : Bool) → x ≡ holds ks n → x ≡ allHeld (n ∷ []) ks
-      go true q = rw (← q)
-      go false q = rw (← q)
-
-module _ (ks : List (List ℕ)) (c : ℕ) where
-  pub seal-no-value : c ≡ 0 → false ≡ sealHeld ks c
-  unfolding sealHeld
-  seal-no-value z = rw (eq-eqb c 0 z)
-
-  module _ (ne : c ≡ 0 → ⊥) (r : Bool) (e : r ≡ holds ks (bytes "h")) where
-    pub seal-header : r ≡ true → false ≡ sealHeld ks c
-    unfolding sealHeld
-    seal-header t = rw (ne-eqb c 0 ne, ← e, t)
-
-    pub seal-held : r ≡ false → (x : Bool) → x ≡ allHeld sealTags ks → x ≡ sealHeld ks c
-    unfolding sealHeld
-    seal-held t x q = rw (ne-eqb c 0 ne, ← e, t) q
-
 -- ==== a collected list
 
+-- each of these is a name
+abbrev AllNamed : List (List ℕ) → Type 0
+AllNamed [] = Unit
+AllNamed (n ∷ ns) = Named n × AllNamed ns
+
+signature-named : AllNamed signatureTags
+unfolding opened run
+signature-named = (refl, (refl, (refl, (refl, (refl, (refl, tt))))))
+
+seal-named : AllNamed sealTags
+unfolding opened run
+seal-named = (refl, (refl, (refl, (refl, (refl, tt)))))
+
+header-named : Named (bytes "h")
+unfolding opened run
+header-named = refl
+
+cv-named : Named (bytes "cv")
+unfolding opened run
+cv-named = refl
+
 -- the names of a table are those of the list
-held-needs : (ks : List (List ℕ)) (ts : List Tag) → ((m : List ℕ) → holds ks m ≡ named ts m) → (ns : List (List ℕ)) → allHeld ns ks ≡ needs ns ts
-unfolding allHeld needs
-held-needs ks ts h [] = refl
-held-needs ks ts h (n ∷ ns) = rw (h n, held-needs ks ts h ns)
+module _ (s ps : List ℕ) (ts : List Tag) (h : (m : List ℕ) → holds (map (nameAt s) ps) m ≡ named ts m) where
+  held-there : (n : List ℕ) → Named n → heldAt s ps n ≡ named ts n
+  held-there n k = held-named s ps n k ∙ h n
+
+  held-needs : (ns : List (List ℕ)) → AllNamed ns → allAt s ps ns ≡ needs ns ts
+  unfolding allAt needs
+  held-needs [] k = refl
+  held-needs (n ∷ ns) k = rw (held-there n (k .0), held-needs ns (k .1))
 
 -- three tests, in either order
 turned : (a b c : Bool) → (a && b && c) ≡ (c && b && a)
@@ -92,18 +89,19 @@ turned false false true = refl
 turned false false false = refl
 
 module _ (s : List ℕ) (at : ℕ) (t : List ℕ) (n c : ℕ) (w : SoundAt s at t n c) where
-  signature-is : allHeld signatureTags (kept s t n) ≡ isSignature (tagsAt s at)
+  signature-is : allAt s (take n t) signatureTags ≡ isSignature (tagsAt s at)
   unfolding isSignature
-  signature-is = rw (w .fine) (held-needs (kept s t n) (tagsAt s at) (w .names) signatureTags)
+  signature-is = rw (w .fine) (held-needs s (take n t) (tagsAt s at) (w .names) signatureTags signature-named)
 
-  seal-is : sealHeld (kept s t n) c ≡ isSeal (tagsAt s at)
-  unfolding isSeal sealHeld
+  seal-is : sealAt s (take n t) c ≡ isSeal (tagsAt s at)
+  unfolding isSeal sealAt
   seal-is =
-      let a = allHeld sealTags (kept s t n) in
-      let b = not (holds (kept s t n) (bytes "h")) in
+      let a = allAt s (take n t) sealTags in
+      let b = not (heldAt s (take n t) (bytes "h")) in
       let d = not (eqb c 0) in
-      let e : a ≡ needs sealTags (tagsAt s at) = held-needs (kept s t n) (tagsAt s at) (w .names) sealTags in
-      turned d b a ∙ (rw (w .fine, ← e, ← w .names (bytes "h"), ← w .cv))
+      let e : a ≡ needs sealTags (tagsAt s at) = held-needs s (take n t) (tagsAt s at) (w .names) sealTags seal-named in
+      let k : heldAt s (take n t) (bytes "h") ≡ named (tagsAt s at) (bytes "h") = held-there s (take n t) (tagsAt s at) (w .names) (bytes "h") header-named in
+      turned d b a ∙ (rw (w .fine, ← e, ← k, ← w .cv))
 
 -- a list that ends with the body is read
 module _ (seal : Bool) (s : List ℕ) (at : ℕ) where
@@ -131,33 +129,31 @@ unfolding isSeal isSignature
 unsound-test true ts e = rw (listTest, e)
 unsound-test false ts e = rw (listTest, e)
 
-seal-test : (ts : List Tag) (b : Bool) → b ≡ isSeal ts → (c : ℕ) → c ≡ chainValue (valueNamed (bytes "cv") ts) → (s : List ℕ) (at m : ℕ)
-    → listTest true ts ≡ listSaid true s at → (r : Attempt) → r ≡ attemptIf b c → AttemptAt true s at m r
-seal-test ts true e c q s at m h r i = rw i ((rw (listTest, ← e, ← q) at h))
-seal-test ts false e c q s at m h r i = rw i ((rw (listTest, ← e) at h))
+module _ (F : Type 0) (s : List ℕ) (at : ℕ) where
+  seal-test : (ts : List Tag) (b : Bool) → b ≡ isSeal ts → (c : ℕ) → c ≡ chainValue (valueNamed (bytes "cv") ts) → listTest true ts ≡ listSaid true s at
+      → AttemptIf F true s at (attemptIf b c)
+  seal-test ts true e c q h = rw (listTest, ← e, ← q) at h
+  seal-test ts false e c q h = rw (listTest, ← e) at h
 
-signature-test : (ts : List Tag) (b : Bool) → b ≡ isSignature ts → (s : List ℕ) (at m : ℕ)
-    → listTest false ts ≡ listSaid false s at → (r : Attempt) → r ≡ attemptIf b 0 → AttemptAt false s at m r
-signature-test ts true e s at m h r i = rw i ((rw (listTest, ← e) at h))
-signature-test ts false e s at m h r i = rw i ((rw (listTest, ← e) at h))
+  signature-test : (ts : List Tag) (b : Bool) → b ≡ isSignature ts → listTest false ts ≡ listSaid false s at → AttemptIf F false s at (attemptIf b 0)
+  signature-test ts true e h = rw (listTest, ← e) at h
+  signature-test ts false e h = rw (listTest, ← e) at h
 
 -- ==== by what was collected
 
-module _ (s : List ℕ) (at : ℕ) (t : List ℕ) (x : Collected) (w : CollectedAt s at t x) where
+module _ (F : Type 0) (s : List ℕ) (at : ℕ) (t : List ℕ) (x : Collected) (w : CollectedIf F s at t x) where
   module _ (n c : ℕ) (e : x ≡ Sound n c) where
     sound-at : SoundAt s at t n c
     sound-at = rw e at w
 
-    pub collected-kept : Kept s t n
-    collected-kept = sound-at .table
+    pub collected-fits : n ≤ length t
+    collected-fits = sound-at .fits
 
-    pub collected-seal : (seal : Bool) → seal ≡ true → (b : Bool) → b ≡ sealHeld (kept s t n) c → (r : Attempt) → r ≡ attemptIf b c → (m : ℕ) → AttemptAt seal s at m r
-    collected-seal seal u b q r i m =
-        rw u (seal-test (tagsAt s at) b (q ∙ seal-is s at t n c sound-at) c (sound-at .cv) s at m (said-list true s at (sound-at .ends)) r i)
-
-    pub collected-signature : (seal : Bool) → seal ≡ false → (b : Bool) → b ≡ allHeld signatureTags (kept s t n) → (r : Attempt) → r ≡ attemptIf b 0 → (m : ℕ) → AttemptAt seal s at m r
-    collected-signature seal u b q r i m =
-        rw u (signature-test (tagsAt s at) b (q ∙ signature-is s at t n c sound-at) s at m (said-list false s at (sound-at .ends)) r i)
+    pub collected-told : (seal : Bool) (r : Attempt) → r ≡ toldAt seal s (take n t) c → AttemptIf F seal s at r
+    collected-told true r i =
+        rw i (seal-test F s at (tagsAt s at) (sealAt s (take n t) c) (seal-is s at t n c sound-at) c (sound-at .cv) (said-list true s at (sound-at .ends)))
+    collected-told false r i =
+        rw i (signature-test F s at (tagsAt s at) (allAt s (take n t) signatureTags) (signature-is s at t n c sound-at) (said-list false s at (sound-at .ends)))
 
   pub collected-unsound : x ≡ Unsound → (seal : Bool) → none ≡ listSaid seal s at
   collected-unsound e seal = go (leb (length s) (endAt tag s at)) refl
@@ -173,8 +169,8 @@ module _ (s : List ℕ) (at : ℕ) (t : List ℕ) (x : Collected) (w : Collected
       go true h = listed h (sound (tagsAt s at)) refl
       go false h = said-none seal s at (leb-false (length s) (endAt tag s at) h)
 
-  pub collected-full : x ≡ Full → (m : ℕ) → m ≡ length t → m < length (tagsAt s at)
-  collected-full e m q = rw q (rw e at w)
+  pub collected-full : x ≡ Full → F
+  collected-full e = rw e at w
 
 -- ==== how many tags there can be
 
@@ -213,7 +209,18 @@ tags-few s at = rw (values-after at (several tag 0 (drop at s))) (omega (arith, 
 pub attempt-if : (b : Bool) (c : ℕ) → b ≡ true → attempt.Read c ≡ attemptIf b c
 attempt-if b c e = rw e
 
-module _ (seal : Bool) (s : List ℕ) (at m : ℕ) (x : Attempt) (w : AttemptAt seal s at m x) where
+-- the entries in use
+pub in-use-long : (t : List ℕ) (n : ℕ) → n ≤ length t → n ≡ length (take n t)
+in-use-long t n h = sym (length-take-le n t h)
+
+module _ (seal : Bool) (s ps : List ℕ) (c : ℕ) (b : Bool) (r : Attempt) where
+  pub told-seal : seal ≡ true → b ≡ sealAt s ps c → r ≡ attemptIf b c → r ≡ toldAt seal s ps c
+  told-seal e q i = rw (e, ← q) i
+
+  pub told-signature : seal ≡ false → b ≡ allAt s ps signatureTags → r ≡ attemptIf b 0 → r ≡ toldAt seal s ps c
+  told-signature e q i = rw (e, ← q) i
+
+module _ (F : Type 0) (seal : Bool) (s : List ℕ) (at : ℕ) (x : Attempt) (w : AttemptIf F seal s at x) where
   pub attempt-read : (c : ℕ) → x ≡ attempt.Read c → some c ≡ listSaid seal s at
   attempt-read c e = rw e at w
 
@@ -221,23 +228,26 @@ module _ (seal : Bool) (s : List ℕ) (at m : ℕ) (x : Attempt) (w : AttemptAt 
   attempt-unreadable e = rw e at w
 
 -- a large table is never full
-pub many-said : (seal : Bool) (s : List ℕ) (at : ℕ) (x : Attempt) → AttemptAt seal s at (length {A = ℕ} (replicate 32768 0)) x → length s ≤ 65536 → (l : Listed)
-    → l ≡ listedAs x → listedSaid l ≡ listSaid seal s at
-many-said seal s at x w h l e = rw e (go (length {A = ℕ} (replicate 32768 0)) (length-replicate {A = ℕ} 32768 0) x w)
+pub many-said : (seal : Bool) (s : List ℕ) (at m : ℕ) (x : Attempt) → AttemptIf (m < length (tagsAt s at)) seal s at x → m ≡ 32768 → length s ≤ 65536
+    → (l : Listed) → l ≡ listedAs x → listedSaid l ≡ listSaid seal s at
+many-said seal s at m x w k h l e = rw e (go x w)
   where
-    go : (m : ℕ) → m ≡ 32768 → (x : Attempt) → AttemptAt seal s at m x → listedSaid (listedAs x) ≡ listSaid seal s at
-    go m k (attempt.Read c) w = w
-    go m k attempt.Unreadable w = w
-    go m k attempt.Full w = absurd (omega (arith, tags-few s at, w))
+    go : (x : Attempt) → AttemptIf (m < length (tagsAt s at)) seal s at x → listedSaid (listedAs x) ≡ listSaid seal s at
+    go (attempt.Read c) w = w
+    go attempt.Unreadable w = w
+    go attempt.Full w = absurd (omega (arith, tags-few s at, w))
 
 -- ==== the chain value
 
-module _ (c : ℕ) (n v : List ℕ) (r : Bool) (e : r ≡ same n (bytes "cv")) where
+module _ (c : ℕ) (n v : List ℕ) (g : Named n) (r : Bool) (e : r ≡ sameAt n 0 (bytes "cv")) where
+  is-cv : r ≡ same n (bytes "cv")
+  is-cv = e ∙ same-whole n (bytes "cv") g cv-named
+
   pub cv-here : r ≡ true → (x : ℕ) → x ≡ chainValue (trimmed v) → x ≡ cvAfter c n v
-  cv-here t x q = rw (← e, t) q
+  cv-here t x q = rw (← is-cv, t) q
 
   pub cv-before : r ≡ false → c ≡ cvAfter c n v
-  cv-before t = rw (← e, t)
+  cv-before t = rw (← is-cv, t)
 
 -- ==== the limit
 
@@ -257,3 +267,14 @@ module _ (seal : Bool) (s : List ℕ) (at : ℕ) where
   pub list-within : length s ≤ byteLimit → listedAt seal s at ≡ listSaid seal s at
   unfolding listedAt
   list-within h = rw (listedAt, le-ltb byteLimit (length s) h)
+
+-- ==== the tables of many
+
+pub many-room : (s : List ℕ) → length s ≤ byteLimit
+    → (length s ≤ byteLimit)
+    × (length {A = ℕ} (replicate 16384 0) ≤ length {A = ℕ} (replicate 16384 0))
+    × (length {A = ℕ} (replicate 16384 0) < 65536)
+    × (_≡_ {A = List ℕ} (replicate 32768 0) (replicate 32768 0))
+many-room s h =
+    let e = length-replicate {A = ℕ} 16384 0 in
+    (h, omega arith, omega (arith, e), refl)

@@ -1,19 +1,17 @@
 -- What private functions say: no public contract cites these. Assumes nothing: these are definitions.
 use Prim.Native.Nat.{ℕ, suc, _+_, _-_, _≤_, _<_}
 use mathlib.Core.Path.{_≡_}
-use mathlib.Core.Bool.{Bool, true, false, not, cond, _&&_, _||_}
+use mathlib.Core.Bool.{Bool, true, false, cond, _&&_, _||_}
 use mathlib.Core.List.{List, [], _∷_, _++_, map}
-use mathlib.Core.Option.{Option, none, some}
-use lib.Dec.{eqb, leb, ltb}
-use lib.ListN.{length, take, drop}
+use mathlib.Core.Option.{none, some}
+use lib.Dec.{leb}
+use lib.ListN.{length, getD, take, drop}
 use Rattle.reading.specs.Texts.{bytes, same}
-use Rattle.reading.specs.Readers.{run}
-use Rattle.reading.specs.Parsers.{nothing, got}
-use Rattle.reading.specs.Places.{from, listAt, endAt}
-use Rattle.taglist.specs.declared.seen.Order.{Order}
-use Rattle.taglist.specs.declared.seen.Order.the-variants.{Before, Same, After}
+use Rattle.reading.specs.Places.{listAt, endAt}
 use Rattle.taglist.specs.declared.seen.Slot.{Slot}
 use Rattle.taglist.specs.declared.seen.Slot.the-variants.{Taken, Free}
+use Rattle.taglist.specs.declared.linked.Sought.{Sought}
+use Rattle.taglist.specs.declared.linked.Sought.the-variants as sought
 use Rattle.taglist.specs.declared.Collected.{Collected}
 use Rattle.taglist.specs.declared.Collected.the-variants.{Sound, Unsound}
 use Rattle.taglist.specs.declared.Collected.the-variants as collected
@@ -22,29 +20,16 @@ use Rattle.taglist.specs.declared.Attempt.the-variants as attempt
 use Rattle.taglist.specs.declared.Listed.{Listed}
 use Rattle.taglist.specs.declared.Listed.the-variants as listed
 use Rattle.taglist.specs.Lists.{listSaid}
-use Rattle.arc_rules.specs.Tags.{inTagName, trimmed, Tag, tag, tags, named, valueNamed}
-use Rattle.arc_rules.specs.Sets.{chainValue, sound, sealTags, isSignature, isSeal}
-
--- ==== names in order
-
-unfoldable pub compared : List ℕ → List ℕ → Order
-compared [] [] = Same
-compared [] (y ∷ ys) = Before
-compared (x ∷ xs) [] = After
-compared (x ∷ xs) (y ∷ ys) = elim (ltb x y) [ true ↦ Before | false ↦ (elim (ltb y x) [ true ↦ After | false ↦ compared xs ys ]) ]
-
--- the name that starts at a place
-abbrev pub nameAt : List ℕ → ℕ → List ℕ
-nameAt s a = take (run inTagName (drop a s)) (drop a s)
+use Rattle.tagnames.specs.declared.Order.the-variants.{Before, Same, After}
+use Rattle.tagnames.specs.Names.{nameAt, compared, isBefore, holds, allAt, sealAt, bucketOf}
+use Rattle.arc_rules.specs.Tags.{trimmed, Tag, tag, named, valueNamed}
+use Rattle.arc_rules.specs.Sets.{chainValue, sound, signatureTags}
 
 -- the names that the first n entries of a table stand for
 abbrev pub kept : List ℕ → List ℕ → ℕ → List (List ℕ)
 kept s t n = map (nameAt s) (take n t)
 
-abbrev pub isBefore : Order → Bool
-isBefore Before = true
-isBefore Same = false
-isBefore After = false
+-- ==== names in order
 
 -- each is before all that follow it
 unfoldable pub beforeAll : List ℕ → List (List ℕ) → Bool
@@ -55,24 +40,10 @@ unfoldable pub ordered : List (List ℕ) → Bool
 ordered [] = true
 ordered (k ∷ ks) = beforeAll k ks && ordered ks
 
-unfoldable pub allBelow : ℕ → List ℕ → Bool
-allBelow n [] = true
-allBelow n (p ∷ ps) = ltb p n && allBelow n ps
-
--- the first n entries of a table are places of the body, and their names are in order
+-- the names of the first n entries of a table are in order
 pub record Kept (s t : List ℕ) (n : ℕ) : Type 0 where
   pub fits : n ≤ length t
-  pub places : allBelow (length s) (take n t) ≡ true
   pub order : ordered (kept s t n) ≡ true
-
--- a name is one of those kept
-unfoldable pub holds : List (List ℕ) → List ℕ → Bool
-holds [] n = false
-holds (k ∷ ks) n = same k n || holds ks n
-
-unfoldable pub allHeld : List (List ℕ) → List (List ℕ) → Bool
-allHeld [] ks = true
-allHeld (n ∷ ns) ks = holds ks n && allHeld ns ks
 
 -- where a name stands among those from the i-th on
 unfoldable pub slotFor : ℕ → List (List ℕ) → List ℕ → Slot
@@ -86,6 +57,44 @@ slotOf ks n = elim (same n (bytes "i")) [ true ↦ Taken | false ↦ slotFor 0 k
 -- an entry put before another, of the first n
 abbrev pub insertedAt : ℕ → ℕ → ℕ → List ℕ → List ℕ
 insertedAt i n p t = take i t ++ (p ∷ (take (n - i) (drop i t) ++ drop (n + 1) t))
+
+-- ==== names linked by buckets
+
+-- the bucket of the name that an entry stands for
+abbrev pub bucketAt : List ℕ → List ℕ → ℕ → ℕ
+bucketAt s t k = bucketOf (nameAt s (getD t k 0))
+
+-- a link, counted from 1, is to a name of this bucket, or it is none
+abbrev pub Ends : List ℕ → List ℕ → ℕ → ℕ → Type 0
+Ends s t b c = (k : ℕ) → c ≡ suc k → bucketAt s t k ≡ b
+
+-- a link is to the last name of a bucket among the first n entries
+pub record Last (s t : List ℕ) (b c n : ℕ) : Type 0 where
+  pub within : c ≤ n
+  pub skips : (k : ℕ) → c ≤ k → k < n → bucketAt s t k ≡ b → ⊥
+  pub ends : Ends s t b c
+
+-- each of the first n entries of a table is linked to the one before it of its bucket
+pub record Links (s t next : List ℕ) (n : ℕ) : Type 0 where
+  pub fits : n ≤ length t
+  pub room : n ≤ length next
+  pub before : (k : ℕ) → k < n → Last s t (bucketAt s t k) (getD next k 0) k
+
+-- and each bucket to its last
+pub record Linked (s t next heads : List ℕ) (n : ℕ) : Type 0 where
+  pub links : Links s t next n
+  pub buckets : length heads ≡ 32768
+  pub last : (b : ℕ) → b < 32768 → Last s t b (getD heads b 0) n
+
+-- what an answer says of a test
+abbrev pub SoughtAs : Bool → Sought → Type 0
+SoughtAs b sought.Taken = b ≡ true
+SoughtAs b sought.Free = b ≡ false
+SoughtAs b sought.Unsure = Unit
+
+-- i counts as one of the names
+abbrev pub isHeld : List (List ℕ) → List ℕ → Bool
+isHeld ks n = same n (bytes "i") || holds ks n
 
 -- ==== tags
 
@@ -104,17 +113,15 @@ tagsAt s at = listAt tag s at
 pub record SoundAt (s : List ℕ) (at : ℕ) (t : List ℕ) (n c : ℕ) : Type 0 where
   pub fine : sound (tagsAt s at) ≡ true
   pub ends : length s ≤ endAt tag s at
-  pub table : Kept s t n
+  pub fits : n ≤ length t
   pub names : (m : List ℕ) → holds (kept s t n) m ≡ named (tagsAt s at) m
   pub cv : c ≡ chainValue (valueNamed (bytes "cv") (tagsAt s at))
 
-abbrev pub CollectedAt : List ℕ → ℕ → List ℕ → Collected → Type 0
-CollectedAt s at t (collected.Sound n c) = SoundAt s at t n c
-CollectedAt s at t collected.Unsound = (sound (tagsAt s at) && leb (length s) (endAt tag s at)) ≡ false
-CollectedAt s at t collected.Full = length t < length (tagsAt s at)
-
-unfoldable pub sealHeld : List (List ℕ) → ℕ → Bool
-sealHeld ks c = not (eqb c 0) && not (holds ks (bytes "h")) && allHeld sealTags ks
+-- what was collected, where F is what a full table says
+abbrev pub CollectedIf : Type 0 → List ℕ → ℕ → List ℕ → Collected → Type 0
+CollectedIf F s at t (collected.Sound n c) = SoundAt s at t n c
+CollectedIf F s at t collected.Unsound = (sound (tagsAt s at) && leb (length s) (endAt tag s at)) ≡ false
+CollectedIf F s at t collected.Full = F
 
 -- ==== tag lists
 
@@ -122,10 +129,16 @@ abbrev pub attemptIf : Bool → ℕ → Attempt
 attemptIf true c = attempt.Read c
 attemptIf false c = attempt.Unreadable
 
-abbrev pub AttemptAt : Bool → List ℕ → ℕ → ℕ → Attempt → Type 0
-AttemptAt seal s at n (attempt.Read c) = some c ≡ listSaid seal s at
-AttemptAt seal s at n attempt.Unreadable = none ≡ listSaid seal s at
-AttemptAt seal s at n attempt.Full = n < length (tagsAt s at)
+-- by the names at the places, and the chain value
+abbrev pub toldAt : Bool → List ℕ → List ℕ → ℕ → Attempt
+toldAt true s ps c = attemptIf (sealAt s ps c) c
+toldAt false s ps c = attemptIf (allAt s ps signatureTags) 0
+
+-- what an attempt says, where F is what a full table says
+abbrev pub AttemptIf : Type 0 → Bool → List ℕ → ℕ → Attempt → Type 0
+AttemptIf F seal s at (attempt.Read c) = some c ≡ listSaid seal s at
+AttemptIf F seal s at attempt.Unreadable = none ≡ listSaid seal s at
+AttemptIf F seal s at attempt.Full = F
 
 abbrev pub listedAs : Attempt → Listed
 listedAs (attempt.Read c) = listed.Read c

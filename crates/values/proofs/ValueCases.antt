@@ -7,6 +7,7 @@ use mathlib.Core.Bool.{Bool, true, false}
 use mathlib.Core.List.{List}
 use lib.Dec.{eqb}
 use lib.ListN.{length, getD, take, drop}
+use lib.Seq.{drop-drop}
 use borrow.Author.Tests.{eq-eqb, ne-eqb}
 use Rattle.reading.specs.Readers.{run}
 use Rattle.reading.proofs.Readers.{there-at}
@@ -16,6 +17,7 @@ use Rattle.values.specs.declared.Value.the-variants.{Token, Quoted, Mail
 use Rattle.values.specs.declared.Found.{Found}
 use Rattle.values.specs.declared.Found.the-variants.{Read, Refused}
 use Rattle.resinfo_rules.specs.Results.{inLocalPart, singleDots, domain}
+use Rattle.resinfo_rules.proofs.Values.{local-past-token}
 use Rattle.values.specs.Values.{upTo, mailboxAt, atDomainAt, addressAt, quotedTo, quotedAt, tokenAt, valueFrom, valueAt}
 
 -- ==== from a place up to another
@@ -32,13 +34,6 @@ module _ (a n e : ℕ) (v : ℕ → place.Value) (q : e ≡ a + n) where
       go : (m : ℕ) → n ≡ m → Read (v e) e ≡ upTo a m v
       go zero z = absurd (ne (omega arith))
       go (suc m) z = let j : e ≡ a + suc m = omega arith in rw j
-
-module _ (s : List ℕ) (start e : ℕ) (q : e ≡ start + token (drop start s)) where
-  pub token-none : e ≡ start → Refused ≡ tokenAt s start
-  token-none = up-to-none start (token (drop start s)) e (λ e. Token start e) q
-
-  pub token-read : (e ≡ start → ⊥) → Read (Token start e) e ≡ tokenAt s start
-  token-read = up-to-read start (token (drop start s)) e (λ e. Token start e) q
 
 module _ (s : List ℕ) (sign e : ℕ) (q : e ≡ sign + 1 + domain (drop (sign + 1) s)) where
   pub at-domain-none : e ≡ sign + 1 → Refused ≡ atDomainAt s sign
@@ -59,11 +54,6 @@ module _ (s : List ℕ) (sign e : ℕ) (q : e ≡ sign + 1 + domain (drop (sign 
 -- "@" that a test found is there
 pub sign-there : (s : List ℕ) (i : ℕ) (r : Bool) → r ≡ eqb (getD (drop i s) 0 0) 64 → r ≡ true → i < length s
 sign-there s i r h t = omega (arith, there-at (λ b. eqb b 64) refl s i 0 (sym h ∙ t))
-
--- and it stands behind the run of bytes of a local part
-pub sign-behind : (s : List ℕ) (at sign : ℕ) (r : Bool) → sign ≡ at + run inLocalPart (drop at s) → r ≡ eqb (getD (drop sign s) 0 0) 64 → r ≡ true
-    → (at ≤ sign) × (sign < length s)
-sign-behind s at sign r q h t = (omega arith, sign-there s sign r h t)
 
 module _ (s : List ℕ) (start sign : ℕ) where
   pub address-empty : sign ≡ start → (x : Found) → x ≡ atDomainAt s sign → x ≡ addressAt s start sign
@@ -103,11 +93,23 @@ module _ (s : List ℕ) (start e : ℕ) (q : e ≡ start + quoted (drop start s)
     unfolding quotedTo
     quoted-read t = sym (rw (quotedTo, ← h, t)) ∙ to
 
--- ==== the four kinds
+-- ==== the four kinds: the token at the place, the run of bytes of a local part, and what stands behind it
 
-module _ (s : List ℕ) (start sign : ℕ) (q : sign ≡ start + run inLocalPart (drop start s)) (r : Bool) (h : r ≡ eqb (getD (drop sign s) 0 0) 64) where
+module _ (s : List ℕ) (start e sign : ℕ) (p : e ≡ start + token (drop start s)) (q : sign ≡ e + run inLocalPart (drop e s))
+    (r : Bool) (h : r ≡ eqb (getD (drop sign s) 0 0) 64) where
+  -- the run from the place on goes on where the token ends
+  local-run : sign ≡ start + run inLocalPart (drop start s)
+  local-run =
+      let d : drop (token (drop start s)) (drop start s) ≡ drop e s = rw (drop-drop, ← p) in
+      let l : run inLocalPart (drop start s) ≡ token (drop start s) + run inLocalPart (drop e s) = rw d at (local-past-token (drop start s)) in
+      omega arith
+
   from-sign : valueAt s start ≡ valueFrom s start sign
-  from-sign = ap (valueFrom s start) (sym q)
+  from-sign = ap (valueFrom s start) (sym local-run)
+
+  -- "@" stands behind the run
+  pub sign-behind : r ≡ true → (start ≤ sign) × (sign < length s)
+  sign-behind t = (omega arith, sign-there s sign r h t)
 
   pub value-address : r ≡ true → (x : Found) → x ≡ addressAt s start sign → x ≡ valueAt s start
   unfolding valueFrom
@@ -118,6 +120,13 @@ module _ (s : List ℕ) (start sign : ℕ) (q : sign ≡ start + run inLocalPart
     unfolding valueFrom
     value-quoted t x k = k ∙ sym (from-sign ∙ rw (valueFrom, ← h, f, ← h′, t))
 
-    pub value-token : r′ ≡ false → (x : Found) → x ≡ tokenAt s start → x ≡ valueAt s start
-    unfolding valueFrom
-    value-token t x k = k ∙ sym (from-sign ∙ rw (valueFrom, ← h, f, ← h′, t))
+    module _ (t : r′ ≡ false) where
+      unaddressed : tokenAt s start ≡ valueAt s start
+      unfolding valueFrom
+      unaddressed = sym (from-sign ∙ rw (valueFrom, ← h, f, ← h′, t))
+
+      pub value-none : e ≡ start → Refused ≡ valueAt s start
+      value-none z = up-to-none start (token (drop start s)) e (λ e. Token start e) p z ∙ unaddressed
+
+      pub value-token : (e ≡ start → ⊥) → Read (Token start e) e ≡ valueAt s start
+      value-token ne = up-to-read start (token (drop start s)) e (λ e. Token start e) p ne ∙ unaddressed

@@ -10,7 +10,7 @@ use Rattle.reading.specs.Readers.{run}
 use Rattle.reading.specs.Parsers.{Got, nothing, got}
 use Rattle.lexis_rules.specs.Pieces.{token, quoted}
 use Rattle.lexis_rules.specs.Words.{quotedText}
-use Rattle.lexis.specs.Internal.{bitsOf}
+use Rattle.classes.specs.Internal.{bitsOf}
 use Rattle.values.specs.declared.Value as place
 use Rattle.values.specs.declared.Value.the-variants as at
 use Rattle.values.specs.declared.Found.{Found}
@@ -95,3 +95,7 @@ localWord b = cond (ltb b 64) (bitsOf inLocalPart 0 64) (cond (ltb b 128) (bitsO
 -- a byte may follow another one in labels parted by dots
 unfoldable pub goesOn : ℕ → ℕ → Bool
 goesOn b x = alphanumeric x || eqb x (code ".") && alphanumeric b || eqb x (code "-") && not (eqb b (code "."))
+
+-- where a domain that started at a place ends: at e, if a dot was passed and the last byte may end a label; else there is none
+abbrev pub closedAt : Bool → ℕ → ℕ → ℕ → ℕ
+closedAt parted last at e = cond (parted && alphanumeric last) e at

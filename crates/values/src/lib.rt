@@ -10,8 +10,8 @@ ghost use Prim.Native.Nat.{_+_, _≤_, _<_};
 ghost use lib.Dec.{eqb};
 ghost use lib.ListN.{drop, length};
 ghost use Rattle.reading.specs.Readers.{run};
-ghost use Rattle.resinfo_rules.specs.Results.{alphanumeric, inLocalPart, inDomain, singleDots, isDomain, domain};
-ghost use Rattle.values.specs.Values.{localWord, goesOn, mailboxAt, atDomainAt, addressAt, quotedAt, tokenAt, valueAt};
+ghost use Rattle.resinfo_rules.specs.Results.{alphanumeric, inLocalPart, singleDots, domain};
+ghost use Rattle.values.specs.Values.{localWord, goesOn, closedAt, mailboxAt, atDomainAt, addressAt, quotedAt, valueAt};
 
 // Where a property value stands: from `start` up to `end`. `sign` is the place of the "@" of a mailbox; `quoted` says that its local part
 // is a quoted string. An at-domain starts with its "@".
@@ -115,16 +115,6 @@ fn is_alphanumeric(x: u8) -> bool
     lexis::in_class(Class::Keyword, x)
 }
 
-// Whether a byte may stand in a domain.
-fn in_domain(b: u8) -> bool
-    ensures { λ r. ⌜ r ≡ inDomain b ⌝ }
-{
-    if b == b'.' {
-        return true;
-    }
-    lexis::in_class(Class::Keyword, b)
-}
-
 // Whether a byte may follow another one in labels parted by dots.
 fn goes_on(before: u8, b: u8) -> bool
     ensures { λ r. ⌜ r ≡ goesOn before b ⌝ }
@@ -151,56 +141,37 @@ fn is_parted(seen: bool, b: u8) -> bool
     b == b'.'
 }
 
-// Whether a text is two or more labels parted by dots.
-fn is_domain(d: &[u8]) -> bool
-    ensures { λ r. ⌜ r ≡ isDomain (now (d .entry)) ⌝ }
+// Where a domain that started at a place ends: at e, if its labels are two or more and the last byte may end one; else there is none.
+fn closed_at(parted: bool, last: u8, at: usize, e: usize) -> usize
+    ensures { λ r. ⌜ r ≡ closedAt parted last at e ⌝ }
+{
+    if parted {
+        if is_alphanumeric(last) {
+            return e;
+        }
+    }
+    at
+}
+
+// The end of a domain. Each byte is looked at once: the labels go on as long as it may follow the one before it. A byte of a domain that may
+// not do so has one before it that ends no label.
+pub fn domain_end(s: &[u8], at: usize) -> usize
+    ensures { λ r. ⌜ r ≡ at + domain (drop at (now (s .entry))) ⌝ }
 {
     let mut last = b'.';
     let mut parted = false;
-    let mut i: usize = 0;
-    while i < d.len() {
-        let b = d[i];
+    let mut i = at;
+    while i < s.len() {
+        let b = s[i];
         if goes_on(last, b) {
             parted = is_parted(parted, b);
             last = b;
             i += 1;
         } else {
-            return false;
+            return closed_at(parted, last, at, i);
         }
     }
-    if parted {
-        return is_alphanumeric(last);
-    }
-    false
-}
-
-// The end of the run of bytes of a domain.
-fn domain_run_end(s: &[u8], at: usize) -> usize
-    ensures { λ r. ⌜ r ≡ at + run inDomain (drop at (now (s .entry))) ⌝ }
-{
-    let mut i = at;
-    while i < s.len() {
-        if in_domain(s[i]) {
-            i += 1;
-        } else {
-            return i;
-        }
-    }
-    i
-}
-
-// The end of a domain.
-pub fn domain_end(s: &[u8], at: usize) -> usize
-    ensures { λ r. ⌜ r ≡ at + domain (drop at (now (s .entry))) ⌝ }
-{
-    let e = domain_run_end(s, at);
-    if e == at {
-        return at;
-    }
-    if is_domain(&s[at..e]) {
-        return e;
-    }
-    at
+    closed_at(parted, last, at, i)
 }
 
 // The mailbox whose local part starts at a place and whose "@" is at another.
@@ -272,11 +243,18 @@ fn quoted_at(s: &[u8], at: usize) -> Found
     }
 }
 
-// The token at a place.
-fn token_at(s: &[u8], at: usize) -> Found
-    ensures { λ r. ⌜ r ≡ tokenAt (now (s .entry)) at ⌝ }
+// The property value at a place. The bytes of a token may all stand in a local part, so the local part goes on where the token ends.
+pub fn value_at(s: &[u8], at: usize) -> Found
+    ensures { λ r. ⌜ r ≡ valueAt (now (s .entry)) at ⌝ }
 {
     let e = lexis::token_end(s, at);
+    let sign = local_end(s, e);
+    if reading::is_at(s, sign, 0, b'@') {
+        return address_at(s, at, sign);
+    }
+    if reading::is_at(s, at, 0, b'"') {
+        return quoted_at(s, at);
+    }
     if e == at {
         return Found::Refused;
     }
@@ -284,18 +262,4 @@ fn token_at(s: &[u8], at: usize) -> Found
         value: Value::Token { start: at, end: e },
         end: e,
     }
-}
-
-// The property value at a place.
-pub fn value_at(s: &[u8], at: usize) -> Found
-    ensures { λ r. ⌜ r ≡ valueAt (now (s .entry)) at ⌝ }
-{
-    let sign = local_end(s, at);
-    if reading::is_at(s, sign, 0, b'@') {
-        return address_at(s, at, sign);
-    }
-    if reading::is_at(s, at, 0, b'"') {
-        return quoted_at(s, at);
-    }
-    token_at(s, at)
 }

@@ -14,12 +14,8 @@
 //
 // The lines that are expected (the file stdout) were not made by this program: they are the answers of a model of the ticket's rules in
 // another language.
-use body::Reported;
 use compose::Written;
 use libc::STDOUT_FILENO;
-
-// The most bytes of lines that are read, and the most that a report of a body may need here.
-const MOST: usize = 210000;
 
 // The most bytes that are lent.
 const MOST_LENT: usize = 66000;
@@ -51,59 +47,54 @@ fn put_bytes(out: &[u8], written: usize) {
     put_text(&out[..n]);
 }
 
-// Writes the answer.
-fn put_answer(r: Written) {
-    put_number(b": number ", r.number as u64);
-    put_number(b" place ", r.place as u64);
-    put_number(b" written ", r.written as u64);
+// Writes the number and the place of an answer, and what else it has.
+fn put_answer(label: &[u8], number: u8, place: usize, other: &[u8], n: usize) {
+    put_number(label, number as u64);
+    put_number(b" place ", place as u64);
+    put_number(other, n as u64);
 }
 
 // Writes whether a report of so many bytes is the lines.
 fn put_same(lines: &[u8], reported: &[u8], count: usize) {
     let n = sampling::front(reported, count);
-    if sampling::is_same(lines, &reported[..n]) {
+    if same_bytes::is_same(lines, &reported[..n]) {
         io::write_all(STDOUT_FILENO, b" same");
         return;
     }
     io::write_all(STDOUT_FILENO, b" differs");
 }
 
-// Writes the answer of the report.
-fn put_report(r: Reported) {
-    put_number(b" read back number ", r.number as u64);
-    put_number(b" place ", r.place as u64);
-    put_number(b" ignored ", r.ignored as u64);
-}
-
-// Reports the body that was written, and compares.
-fn read_back(lines: &[u8], body: &[u8]) {
-    let mut reported = [0u8; MOST];
-    let r = report::report(body, &mut reported);
-    put_report(r);
-    put_same(lines, &reported, r.written);
-}
-
-// The same where the number is 0, on the bytes written.
-fn read_back_written(lines: &[u8], out: &[u8], w: Written) {
-    if w.number == 0 {
-        let n = sampling::front(out, w.written);
-        read_back(lines, &out[..n]);
+// Reports the body that was written, where the number is 0, and compares.
+fn read_back(lines: &[u8], out: &[u8], w: Written) {
+    if w.number != 0 {
+        return;
     }
+    let n = sampling::front(out, w.written);
+    let mut reported = sampling::zeros();
+    let r = report::report(&out[..n], &mut reported);
+    put_answer(
+        b" read back number ",
+        r.number,
+        r.place,
+        b" ignored ",
+        r.ignored,
+    );
+    put_same(lines, &reported, r.written);
 }
 
 // Writes into the lent bytes, and says the answer and what holds of them.
 fn write_into(lines: &[u8], out: &mut [u8]) {
     let w = writing::write(lines, out);
-    put_answer(w);
+    put_answer(b": number ", w.number, w.place, b" written ", w.written);
     put_bytes(out, w.written);
-    read_back_written(lines, out, w);
+    read_back(lines, out, w);
 }
 
 // The same on the file of the lines, with so many lent bytes, each 170.
 fn run(file: i32, room: usize) {
-    let mut lines = [0u8; MOST];
+    let mut lines = sampling::zeros();
     let n = io::read_full(file, &mut lines);
-    let mut out = [170u8; MOST_LENT];
+    let mut out = sampling::untouched();
     let lent = sampling::front(&out, room);
     write_into(&lines[..n], &mut out[..lent]);
 }

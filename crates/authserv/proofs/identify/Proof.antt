@@ -4,8 +4,8 @@ use borrow.Author.Needs.{needs}
 use Rattle.authserv.proofs.identify.Statement.{statement}
 use Rattle.authserv.proofs.identify.Tie as tie
 
-space-end-requires : tie.Need-space-end-requires
-space-end-requires c κs = search needs
+wide-space-end-requires : tie.Need-wide-space-end-requires
+wide-space-end-requires c κs = search needs
 
 is-at-requires : tie.Need-is-at-requires
 is-at-requires c κs = search needs
@@ -32,7 +32,7 @@ pub identify-spec : {M : Type 1} → statement M
 identify-spec =
     tie.close
     (tie.spec
-    space-end-requires
+    wide-space-end-requires
     is-at-requires
     quoted-end-requires
     readable-requires

@@ -1,51 +1,42 @@
--- `block::next_field` meets its contract: each test of the code is one case of the definition. Assumes nothing.
-use Rattle.block.proofs.Lines.{next-end, next-2, next-3, next-4, next-field}
-use native.Mathlib.Omega.{arith}
+-- `block::next_field` meets its contract: a field that was found whole is the one that stands there. Assumes nothing.
 use borrow.Author.Needs.{needs}
+use Rattle.block.proofs.Wide.{whole-3, whole-4, whole-field}
 use Rattle.block.proofs.next_field.Statement.{statement}
 use Rattle.block.proofs.next_field.Tie as tie
 
+whole-end-requires : tie.Need-whole-end-requires
+whole-end-requires c κs = search needs
+
+next-by-lines-requires : tie.Need-next-by-lines-requires
+next-by-lines-requires c κs = search needs
+
 returns : tie.Need-returns
-returns c = search next-end
+returns c = c .next-by-lines .ensures
 
-line-end-requires : tie.Need-line-end-requires
-line-end-requires c κs = search needs
-
-line-text-requires : tie.Need-line-text-requires
-line-text-requires c κs = search needs
-
-returns-2 : tie.Need-returns-2
-returns-2 c = search next-2
-
-run-end-requires : tie.Need-run-end-requires
-run-end-requires c κs = search needs
+name-end-requires : tie.Need-name-end-requires
+name-end-requires c κs = search needs
 
 label-end-requires : tie.Need-label-end-requires
-label-end-requires c κs = search needs
+label-end-requires c κs = c .name-end .ensures
+
+returns-2 : tie.Need-returns-2
+returns-2 c = whole-3 _ _ _ (c .before .before .before .before .whole-end .ensures (c .before .before .before .if1 .left)) _ _ (c .before .label-end .ensures) (c .if2 .taken)
 
 returns-3 : tie.Need-returns-3
-returns-3 c = next-3 (c .before .before .before .before .before .before .before .args .s .now) (c .before .before .before .before .before .before .before .args .w .at) (c .before .before .before .before .before .before .before .args .w .count) (omega arith) (c .before .before .before .before .line-end .result) (c .before .before .before .before .line-end .ensures) (c .before .before .before .if2 .left) (c .before .label-end .result) (c .before .label-end .ensures) (c .if3 .taken)
+returns-3 c = whole-4 _ _ _ (c .before .before .before .before .before .whole-end .ensures (c .before .before .before .before .if1 .left)) _ _ (c .before .before .label-end .ensures) (c .before .if2 .left) (c .if3 .taken)
 
 returns-4 : tie.Need-returns-4
-returns-4 c = next-4 (c .before .before .before .before .before .before .before .before .args .s .now) (c .before .before .before .before .before .before .before .before .args .w .at) (c .before .before .before .before .before .before .before .before .args .w .count) (omega arith) (c .before .before .before .before .before .line-end .result) (c .before .before .before .before .before .line-end .ensures) (c .before .before .before .before .if2 .left) (c .before .before .label-end .result) (c .before .before .label-end .ensures) (c .before .if3 .left) (c .if4 .taken)
-
-finish-requires : tie.Need-finish-requires
-finish-requires c κs = search needs
-
-returns-5 : tie.Need-returns-5
-returns-5 c = search next-field
+returns-4 c = whole-field _ _ _ (c .before .before .before .before .before .whole-end .ensures (c .before .before .before .before .if1 .left)) _ _ (c .before .before .label-end .ensures) (c .before .if2 .left) (c .if3 .left) _ (c .before .before .before .name-end .ensures)
 
 pub next-field-spec : {M : Type 1} → statement M
 next-field-spec =
     tie.close
     (tie.spec
+    whole-end-requires
+    next-by-lines-requires
     returns
-    line-end-requires
-    line-text-requires
-    returns-2
-    run-end-requires
+    name-end-requires
     label-end-requires
+    returns-2
     returns-3
-    returns-4
-    finish-requires
-    returns-5)
+    returns-4)

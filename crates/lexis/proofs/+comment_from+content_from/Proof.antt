@@ -19,7 +19,7 @@ use Rattle.lexis.proofs.content_from.Reads as content-from
 use Rattle.lexis.proofs.content_from.Kinds as content-from-kinds
 use Rattle.lexis.proofs.+comment_from+content_from.Lts-content_from as content-from-lts
 use Rattle.lexis.proofs.item_at.Reads as item-at-reads
-use Rattle.lexis.proofs.run_end.Reads as run-end-reads
+use Rattle.lexis.proofs.plain_end.Reads as plain-end-reads
 use Rattle.reading.proofs.is_at.Reads as is-at-reads
 use Rattle.lexis.proofs.+comment_from+content_from.{statement}
 use Rattle.lexis.proofs.+comment_from+content_from.Tie.{close}
@@ -141,8 +141,8 @@ abbrev content-from-μ-loop : content-from-lts.MeasureT-loop
 content-from-μ-loop s depth i₀ i = length s - i
 
 content-from-loop-holds : (t : ℕ) → content-from-lts.Need-loop-holds (
-  run-end-reads.Asked,
-  run-end-reads.Learnt,
+  plain-end-reads.Asked,
+  plain-end-reads.Learnt,
   is-at-reads.Asked,
   is-at-reads.Learnt,
   comment-from-below t,
@@ -152,9 +152,9 @@ content-from-loop-holds : (t : ℕ) → content-from-lts.Need-loop-holds (
 ) (content-from-at t) content-from.Post content-from-Inv-loop content-from-μ-loop
 content-from-loop-holds t c = reaches-start
 
-content-from-run-end-requires : (t : ℕ) → content-from-lts.Need-run-end-requires (
-  run-end-reads.Asked,
-  run-end-reads.Learnt,
+content-from-plain-end-requires : (t : ℕ) → content-from-lts.Need-plain-end-requires (
+  plain-end-reads.Asked,
+  plain-end-reads.Learnt,
   is-at-reads.Asked,
   is-at-reads.Learnt,
   comment-from-below t,
@@ -162,11 +162,11 @@ content-from-run-end-requires : (t : ℕ) → content-from-lts.Need-run-end-requ
   item-at-reads.Asked,
   item-at-reads.Learnt,
 ) (content-from-at t) content-from.Post content-from-Inv-loop content-from-μ-loop
-content-from-run-end-requires t c κs = search needs
+content-from-plain-end-requires t c κs = search needs
 
 content-from-is-at-requires : (t : ℕ) → content-from-lts.Need-is-at-requires (
-  run-end-reads.Asked,
-  run-end-reads.Learnt,
+  plain-end-reads.Asked,
+  plain-end-reads.Learnt,
   is-at-reads.Asked,
   is-at-reads.Learnt,
   comment-from-below t,
@@ -177,8 +177,8 @@ content-from-is-at-requires : (t : ℕ) → content-from-lts.Need-is-at-requires
 content-from-is-at-requires t c κs = search needs
 
 content-from-comment-from-requires : (t : ℕ) → content-from-lts.Need-comment-from-requires (
-  run-end-reads.Asked,
-  run-end-reads.Learnt,
+  plain-end-reads.Asked,
+  plain-end-reads.Learnt,
   is-at-reads.Asked,
   is-at-reads.Learnt,
   comment-from-below t,
@@ -189,8 +189,8 @@ content-from-comment-from-requires : (t : ℕ) → content-from-lts.Need-comment
 content-from-comment-from-requires t c κs = (omega arith, tt)
 
 content-from-returns : (t : ℕ) → content-from-lts.Need-returns (
-  run-end-reads.Asked,
-  run-end-reads.Learnt,
+  plain-end-reads.Asked,
+  plain-end-reads.Learnt,
   is-at-reads.Asked,
   is-at-reads.Learnt,
   comment-from-below t,
@@ -201,8 +201,8 @@ content-from-returns : (t : ℕ) → content-from-lts.Need-returns (
 content-from-returns t c = search (at-comment, comment-no-open)
 
 content-from-loop-less : (t : ℕ) → content-from-lts.Need-loop-less (
-  run-end-reads.Asked,
-  run-end-reads.Learnt,
+  plain-end-reads.Asked,
+  plain-end-reads.Learnt,
   is-at-reads.Asked,
   is-at-reads.Learnt,
   comment-from-below t,
@@ -213,8 +213,8 @@ content-from-loop-less : (t : ℕ) → content-from-lts.Need-loop-less (
 content-from-loop-less t c = search past-comment-less
 
 content-from-loop-again : (t : ℕ) → content-from-lts.Need-loop-again (
-  run-end-reads.Asked,
-  run-end-reads.Learnt,
+  plain-end-reads.Asked,
+  plain-end-reads.Learnt,
   is-at-reads.Asked,
   is-at-reads.Learnt,
   comment-from-below t,
@@ -225,8 +225,8 @@ content-from-loop-again : (t : ℕ) → content-from-lts.Need-loop-again (
 content-from-loop-again t c = search (past-comment, comment-no-open)
 
 content-from-item-at-requires : (t : ℕ) → content-from-lts.Need-item-at-requires (
-  run-end-reads.Asked,
-  run-end-reads.Learnt,
+  plain-end-reads.Asked,
+  plain-end-reads.Learnt,
   is-at-reads.Asked,
   is-at-reads.Learnt,
   comment-from-below t,
@@ -237,8 +237,8 @@ content-from-item-at-requires : (t : ℕ) → content-from-lts.Need-item-at-requ
 content-from-item-at-requires t c κs = search needs
 
 content-from-returns-2 : (t : ℕ) → content-from-lts.Need-returns-2 (
-  run-end-reads.Asked,
-  run-end-reads.Learnt,
+  plain-end-reads.Asked,
+  plain-end-reads.Learnt,
   is-at-reads.Asked,
   is-at-reads.Learnt,
   comment-from-below t,
@@ -249,8 +249,8 @@ content-from-returns-2 : (t : ℕ) → content-from-lts.Need-returns-2 (
 content-from-returns-2 t c = search (at-item, comment-no-open)
 
 content-from-add-i : (t : ℕ) → content-from-lts.Need-add-i (
-  run-end-reads.Asked,
-  run-end-reads.Learnt,
+  plain-end-reads.Asked,
+  plain-end-reads.Learnt,
   is-at-reads.Asked,
   is-at-reads.Learnt,
   comment-from-below t,
@@ -261,8 +261,8 @@ content-from-add-i : (t : ℕ) → content-from-lts.Need-add-i (
 content-from-add-i t c = search item-turn
 
 content-from-loop-less-2 : (t : ℕ) → content-from-lts.Need-loop-less-2 (
-  run-end-reads.Asked,
-  run-end-reads.Learnt,
+  plain-end-reads.Asked,
+  plain-end-reads.Learnt,
   is-at-reads.Asked,
   is-at-reads.Learnt,
   comment-from-below t,
@@ -273,8 +273,8 @@ content-from-loop-less-2 : (t : ℕ) → content-from-lts.Need-loop-less-2 (
 content-from-loop-less-2 t c = search past-item-less
 
 content-from-loop-again-2 : (t : ℕ) → content-from-lts.Need-loop-again-2 (
-  run-end-reads.Asked,
-  run-end-reads.Learnt,
+  plain-end-reads.Asked,
+  plain-end-reads.Learnt,
   is-at-reads.Asked,
   is-at-reads.Learnt,
   comment-from-below t,
@@ -304,8 +304,8 @@ pub +comment-from+content-from-spec : {M : Type 1} → statement M
     (comment-from-returns-3 t)
     (comment-from-returns-4 t))
     λ t. content-from-lts.spec (
-      run-end-reads.Asked,
-      run-end-reads.Learnt,
+      plain-end-reads.Asked,
+      plain-end-reads.Learnt,
       is-at-reads.Asked,
       is-at-reads.Learnt,
       comment-from-below t,
@@ -318,7 +318,7 @@ pub +comment-from+content-from-spec : {M : Type 1} → statement M
     content-from-Inv-loop
     content-from-μ-loop
     (content-from-loop-holds t)
-    (content-from-run-end-requires t)
+    (content-from-plain-end-requires t)
     (content-from-is-at-requires t)
     (content-from-comment-from-requires t)
     (content-from-returns t)

@@ -4,11 +4,11 @@ use borrow.Author.Needs.{needs}
 use Rattle.lexis.proofs.space_end.Statement.{statement}
 use Rattle.lexis.proofs.space_end.Tie as tie
 
-class-at-requires : tie.Need-class-at-requires
-class-at-requires c κs = search needs
+opens-at-requires : tie.Need-opens-at-requires
+opens-at-requires c κs = search needs
 
-space-from-requires : tie.Need-space-from-requires
-space-from-requires c κs = search needs
+wide-space-end-requires : tie.Need-wide-space-end-requires
+wide-space-end-requires c κs = search needs
 
 returns : tie.Need-returns
 returns c = search needs
@@ -17,4 +17,4 @@ returns-2 : tie.Need-returns-2
 returns-2 c = search space-shut
 
 pub space-end-spec : {M : Type 1} → statement M
-space-end-spec = tie.close (tie.spec class-at-requires space-from-requires returns returns-2)
+space-end-spec = tie.close (tie.spec opens-at-requires wide-space-end-requires returns returns-2)

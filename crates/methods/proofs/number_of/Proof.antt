@@ -52,14 +52,14 @@ shared-slice-read-row c = room (c .before .before .before .before) .0
 array-share-prefix-row : tie.Need-array-share-prefix-row Inv-loop μ-loop
 array-share-prefix-row c = room (c .before .before .before .before) .1
 
-slice-aggregate-same-text : tie.Need-slice-aggregate-same-text Inv-loop μ-loop
-slice-aggregate-same-text c = sym (length-take-le _ _ (room (c .before .before .before .before .before) .1))
+slice-aggregate-same-word : tie.Need-slice-aggregate-same-word Inv-loop μ-loop
+slice-aggregate-same-word c = sym (length-take-le _ _ (room (c .before .before .before .before .before) .1))
 
-same-text-requires : tie.Need-same-text-requires Inv-loop μ-loop
-same-text-requires c κs = search needs
+same-word-requires : tie.Need-same-word-requires Inv-loop μ-loop
+same-word-requires c κs = search needs
 
 returns : tie.Need-returns Inv-loop μ-loop
-returns c = passed-hit _ _ _ _ (c .before .before .before .before .before .before .before .before .loop .inv) (c .before .before .before .before .before .before .before .before .before .before .before .pre) (c .before .before .before .before .before .before .before .loop-test .taken) _ (c .before .same-text .ensures) (c .if2 .taken)
+returns c = passed-hit _ _ _ _ (c .before .before .before .before .before .before .before .before .loop .inv) (c .before .before .before .before .before .before .before .before .before .before .before .pre) (c .before .before .before .before .before .before .before .loop-test .taken) _ (c .before .same-word .ensures) (c .if2 .taken)
 
 add-i-2 : tie.Need-add-i-2 Inv-loop μ-loop
 add-i-2 c = search needs
@@ -68,7 +68,7 @@ loop-less-2 : tie.Need-loop-less-2 Inv-loop μ-loop
 loop-less-2 c = search needs
 
 loop-again-2 : tie.Need-loop-again-2 Inv-loop μ-loop
-loop-again-2 c = passed-more _ _ _ _ (c .before .before .before .before .before .before .before .before .loop .inv) (c .before .before .before .before .before .before .before .before .before .before .before .pre) (c .before .before .before .before .before .before .before .loop-test .taken) _ (c .before .same-text .ensures) (c .if2 .left)
+loop-again-2 c = passed-more _ _ _ _ (c .before .before .before .before .before .before .before .before .loop .inv) (c .before .before .before .before .before .before .before .before .before .before .before .pre) (c .before .before .before .before .before .before .before .loop-test .taken) _ (c .before .same-word .ensures) (c .if2 .left)
 
 returns-2 : tie.Need-returns-2 Inv-loop μ-loop
 returns-2 c = search passed-all
@@ -90,8 +90,8 @@ number-of-spec =
     mul-row-2
     shared-slice-read-row
     array-share-prefix-row
-    slice-aggregate-same-text
-    same-text-requires
+    slice-aggregate-same-word
+    same-word-requires
     returns
     add-i-2
     loop-less-2

@@ -17,7 +17,7 @@ put-quoted-requires : tie.Need-put-quoted-requires
 put-quoted-requires c κs = search needs
 
 returns : tie.Need-returns
-returns c = text-long _ (quotedText (drop (c .before .before .before .before .before .before .args .at) (c .before .before .before .before .before .before .args .body .now))) _ _ _ (c .before .before .put-quoted .ensures) (c .if1 .taken)
+returns c = text-long _ (quotedText (drop (c .before .before .before .before .before .before .before .args .at) (c .before .before .before .before .before .before .before .args .body .now))) _ _ _ (c .before .before .put-quoted .ensures) (c .if1 .taken)
 
 array-share-prefix-text : tie.Need-array-share-prefix-text
 array-share-prefix-text c = search needs
@@ -29,7 +29,7 @@ is-spelled-line-requires : tie.Need-is-spelled-line-requires
 is-spelled-line-requires c κs = search needs
 
 returns-2 : tie.Need-returns-2
-returns-2 c = text-line _ (quotedText (drop (c .before .before .before .before .before .before .before .before .args .at) (c .before .before .before .before .before .before .before .before .args .body .now))) _ _ _ (c .before .before .before .before .put-quoted .ensures) (omega arith) _ (c .is-spelled-line .ensures)
+returns-2 c = text-line _ (quotedText (drop (c .before .before .before .before .before .before .before .before .before .args .at) (c .before .before .before .before .before .before .before .before .before .args .body .now))) _ _ _ (c .before .before .before .before .put-quoted .ensures) (omega arith) _ (c .is-spelled-line .ensures)
 
 pub is-long-quoted-line-spec : {M : Type 1} → statement M
 is-long-quoted-line-spec =

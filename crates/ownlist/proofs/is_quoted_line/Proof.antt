@@ -32,7 +32,7 @@ is-spelled-line-requires : tie.Need-is-spelled-line-requires
 is-spelled-line-requires c κs = search needs
 
 returns-2 : tie.Need-returns-2
-returns-2 c = text-line _ (quotedText (drop (c .before .before .before .before .before .before .before .before .args .at) (c .before .before .before .before .before .before .before .before .args .body .now))) _ _ _ (c .before .before .before .before .put-quoted .ensures) (omega arith) _ (c .is-spelled-line .ensures)
+returns-2 c = text-line _ (quotedText (drop (c .before .before .before .before .before .before .before .before .before .args .at) (c .before .before .before .before .before .before .before .before .before .args .body .now))) _ _ _ (c .before .before .before .before .put-quoted .ensures) (omega arith) _ (c .is-spelled-line .ensures)
 
 pub is-quoted-line-spec : {M : Type 1} → statement M
 is-quoted-line-spec =

@@ -14,13 +14,13 @@ returns : tie.Need-returns
 returns c = search needs
 
 returns-2 : tie.Need-returns-2
-returns-2 c = plain-long _ (c .before .before .before .before .before .args .text .now) _ (c .before .before .has-double-hyphen .ensures) (c .before .if1 .left) (c .if2 .taken)
+returns-2 c = plain-long _ (c .before .before .before .before .before .before .args .text .now) _ (c .before .before .has-double-hyphen .ensures) (c .before .if1 .left) (c .if2 .taken)
 
 is-line-requires : tie.Need-is-line-requires
 is-line-requires c κs = search needs
 
 returns-3 : tie.Need-returns-3
-returns-3 c = plain-line _ (c .before .before .before .before .before .before .args .text .now) _ (c .before .before .before .has-double-hyphen .ensures) (c .before .before .if1 .left) (c .before .if2 .left) _ (c .is-line .ensures)
+returns-3 c = plain-line _ (c .before .before .before .before .before .before .before .args .text .now) _ (c .before .before .before .has-double-hyphen .ensures) (c .before .before .if1 .left) (c .before .if2 .left) _ (c .is-line .ensures)
 
 pub is-spelled-line-spec : {M : Type 1} → statement M
 is-spelled-line-spec =

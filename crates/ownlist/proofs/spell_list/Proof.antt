@@ -4,9 +4,9 @@ use native.Mathlib.Omega.{arith}
 use mathlib.Core.Path.{_≡_, sym, _∙_}
 use borrow.Author.Needs.{needs}
 use lib.ListN.{length, drop}
-use Rattle.ownlist.specs.declared.entries.Listed.the-variants.{Entry}
-use Rattle.ownlist.specs.Steps.{listedFrom}
-use Rattle.ownlist.proofs.EntrySteps.{Taken, entries-next}
+use Rattle.listing.specs.declared.Listed.the-variants.{Entry}
+use Rattle.listing.specs.Steps.{listedFrom}
+use Rattle.listing.proofs.EntrySteps.{Taken, entries-next}
 use Rattle.ownlist.proofs.Spelt.{Spelling, spell-start, spell-end, spell-bad, spell-short, spell-place, spell-size, spell-more}
 use Rattle.ownlist.proofs.spell_list.Statement.{statement}
 use Rattle.ownlist.proofs.spell_list.Tie as tie

@@ -5,6 +5,9 @@ use borrow.Author.Needs.{needs}
 use Rattle.report.proofs.put_payload.Statement.{statement}
 use Rattle.report.proofs.put_payload.Tie as tie
 
+space-end-requires : tie.Need-space-end-requires
+space-end-requires c κs = search needs
+
 says-none-requires : tie.Need-says-none-requires
 says-none-requires c κs = search needs
 
@@ -18,7 +21,7 @@ returns : tie.Need-returns
 returns c = search payload-word
 
 put-results-requires : tie.Need-put-results-requires
-put-results-requires c κs = payload-room _ _ _ (c .before .before .before .before .before .pre)
+put-results-requires c κs = payload-room _ _ _ _ (c .before .before .before .before .before .before .pre) (c .before .before .before .space-end .ensures)
 
 refuse-requires : tie.Need-refuse-requires
 refuse-requires c κs = search needs
@@ -28,9 +31,6 @@ same-length-2 c = search needs
 
 returns-2 : tie.Need-returns-2
 returns-2 c = search payload-no-results
-
-space-end-requires : tie.Need-space-end-requires
-space-end-requires c κs = search needs
 
 refuse-requires-2 : tie.Need-refuse-requires-2
 refuse-requires-2 c κs = search needs
@@ -51,6 +51,7 @@ pub put-payload-spec : {M : Type 1} → statement M
 put-payload-spec =
     tie.close
     (tie.spec
+    space-end-requires
     says-none-requires
     put-none-requires
     same-length
@@ -59,7 +60,6 @@ put-payload-spec =
     refuse-requires
     same-length-2
     returns-2
-    space-end-requires
     refuse-requires-2
     same-length-3
     returns-3

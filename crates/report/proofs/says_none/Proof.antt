@@ -5,8 +5,8 @@ use borrow.Author.Needs.{needs}
 use Rattle.report.proofs.says_none.Statement.{statement}
 use Rattle.report.proofs.says_none.Tie as tie
 
-mark-end-requires : tie.Need-mark-end-requires
-mark-end-requires c κs = search needs
+mark-from-requires : tie.Need-mark-from-requires
+mark-from-requires c κs = search needs
 
 returns : tie.Need-returns
 returns c = search none-no-mark
@@ -45,7 +45,7 @@ pub says-none-spec : {M : Type 1} → statement M
 says-none-spec =
     tie.close
     (tie.spec
-    mark-end-requires
+    mark-from-requires
     returns
     keyword-end-requires
     returns-2

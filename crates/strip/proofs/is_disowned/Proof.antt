@@ -4,8 +4,8 @@ use borrow.Author.Needs.{needs}
 use Rattle.strip.proofs.is_disowned.Statement.{statement}
 use Rattle.strip.proofs.is_disowned.Tie as tie
 
-whose-spelled-requires : tie.Need-whose-spelled-requires
-whose-spelled-requires c κs = search needs
+whose-among-requires : tie.Need-whose-among-requires
+whose-among-requires c κs = search needs
 
 disowns-requires : tie.Need-disowns-requires
 disowns-requires c κs = search needs
@@ -14,4 +14,4 @@ returns : tie.Need-returns
 returns c = search whose-disowned
 
 pub is-disowned-spec : {M : Type 1} → statement M
-is-disowned-spec = tie.close (tie.spec whose-spelled-requires disowns-requires returns)
+is-disowned-spec = tie.close (tie.spec whose-among-requires disowns-requires returns)

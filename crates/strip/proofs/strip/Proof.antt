@@ -1,6 +1,6 @@
 -- `strip::strip` meets its contract: one law for each way out. Assumes nothing.
 use mathlib.Core.Path.{sym, _∙_}
-use Rattle.strip.proofs.Ends.{answer-1, answer-5, answer-listed, answer-plain}
+use Rattle.strip.proofs.Ends.{answer-1, answer-5, answer-listed, answer-plain, plain-room}
 use borrow.Author.Needs.{needs}
 use Rattle.strip.proofs.strip.Statement.{statement}
 use Rattle.strip.proofs.strip.Tie as tie
@@ -41,14 +41,14 @@ same-length c = search needs
 returns-3 : tie.Need-returns-3
 returns-3 c = answer-listed (c .before .before .before .before .before .before .before .before .before .before .before .before .before .before .args .s .now) (c .before .before .before .before .before .before .before .before .before .before .before .before .before .before .args .list .now) (c .before .before .before .before .before .before .before .before .before .before .before .before .before .before .args .out .now) _ _ (c .before .before .before .before .before .before .before .before .before .before .too-long .ensures) (c .before .before .before .before .before .before .before .before .before .if1 .left) (sym (c .before .before .before .before .before .before .enum-told .given .1) ∙ c .before .before .before .before .before .before .before .before .check-list .ensures) _ (c .before .before .strip-spelled .ensures)
 
-strip-by-requires : tie.Need-strip-by-requires
-strip-by-requires c κs = search needs
+strip-lines-requires : tie.Need-strip-lines-requires
+strip-lines-requires c κs = plain-room (c .before .before .before .before .before .before .before .before .before .before .before .args .list .now) (sym (c .before .before .before .enum-told .given .1) ∙ c .before .before .before .before .before .check-list .ensures)
 
 same-length-2 : tie.Need-same-length-2
 same-length-2 c = search needs
 
 returns-4 : tie.Need-returns-4
-returns-4 c = answer-plain (c .before .before .before .before .before .before .before .before .before .before .before .before .before .before .args .s .now) (c .before .before .before .before .before .before .before .before .before .before .before .before .before .before .args .list .now) (c .before .before .before .before .before .before .before .before .before .before .before .before .before .before .args .out .now) _ _ (c .before .before .before .before .before .before .before .before .before .before .too-long .ensures) (c .before .before .before .before .before .before .before .before .before .if1 .left) (sym (c .before .before .before .before .before .before .enum-told .given .1) ∙ c .before .before .before .before .before .before .before .before .check-list .ensures) _ _ (c .before .before .before .before .before .has-double-hyphen .ensures) (c .before .before .before .before .if2 .left) (c .before .before .strip-by .ensures)
+returns-4 c = answer-plain (c .before .before .before .before .before .before .before .before .before .before .before .before .before .before .args .s .now) (c .before .before .before .before .before .before .before .before .before .before .before .before .before .before .args .list .now) (c .before .before .before .before .before .before .before .before .before .before .before .before .before .before .args .out .now) _ _ (c .before .before .before .before .before .before .before .before .before .before .too-long .ensures) (c .before .before .before .before .before .before .before .before .before .if1 .left) (sym (c .before .before .before .before .before .before .enum-told .given .1) ∙ c .before .before .before .before .before .before .before .before .check-list .ensures) _ _ (c .before .before .before .before .before .has-double-hyphen .ensures) (c .before .before .before .before .if2 .left) (c .before .before .strip-lines .ensures)
 
 pub strip-spec : {M : Type 1} → statement M
 strip-spec =
@@ -66,6 +66,6 @@ strip-spec =
     strip-spelled-requires
     same-length
     returns-3
-    strip-by-requires
+    strip-lines-requires
     same-length-2
     returns-4)

@@ -1,69 +1,71 @@
 -- `strip::strip_by` meets its contract: one law for each way out. Assumes nothing.
 use native.Mathlib.Omega.{arith}
-use mathlib.Core.Path.{sym}
-use lib.Seq.{length-take-le}
-use Rattle.strip.proofs.Ends.{answer-2-4, answer-6, answer-0, copied}
 use borrow.Author.Needs.{needs}
+use Rattle.strip.proofs.Ends.{answer-2-4, answer-6, answer-0, marked-wrote}
 use Rattle.strip.proofs.strip_by.Statement.{statement}
 use Rattle.strip.proofs.strip_by.Tie as tie
 
-slice-aggregate-put-kept : tie.Need-slice-aggregate-put-kept
-slice-aggregate-put-kept c = search needs
+slice-aggregate-mark-gone : tie.Need-slice-aggregate-mark-gone
+slice-aggregate-mark-gone c = search needs
 
-put-kept-requires : tie.Need-put-kept-requires
-put-kept-requires c κs = search needs
+slice-aggregate-mark-gone-2 : tie.Need-slice-aggregate-mark-gone-2
+slice-aggregate-mark-gone-2 c = search needs
+
+mark-gone-requires : tie.Need-mark-gone-requires
+mark-gone-requires c κs = search needs
 
 refuse-requires : tie.Need-refuse-requires
 refuse-requires c κs = search needs
 
 returns : tie.Need-returns
-returns c = answer-2-4 (c .before .before .before .before .before .before .before .before .before .args .s .now) _ (c .before .before .before .before .before .before .before .before .before .args .out .now) _ (c .before .before .before .before .put-kept .result) _ _ (c .before .before .before .before .put-kept .ensures) (c .before .if1 .taken) (c .refuse .ensures)
+returns c = answer-2-4 (c .before .before .before .before .before .before .before .before .before .before .before .before .args .s .now) _ (c .before .before .before .before .before .before .before .before .before .before .before .before .args .out .now) _ (c .before .before .before .before .before .mark-gone .result) _ _ (c .before .before .before .before .before .mark-gone .ensures) (c .before .if1 .taken) (c .refuse .ensures)
 
 refuse-requires-2 : tie.Need-refuse-requires-2
 refuse-requires-2 c κs = search needs
 
 returns-2 : tie.Need-returns-2
-returns-2 c = answer-6 (c .before .before .before .before .before .before .before .before .before .before .before .args .s .now) _ (c .before .before .before .before .before .before .before .before .before .before .before .args .out .now) _ (c .before .before .before .before .before .before .put-kept .result) _ _ (c .before .before .before .before .before .before .put-kept .ensures) (search needs) (c .before .if2 .taken) (c .refuse2 .ensures)
+returns-2 c = answer-6 (c .before .before .before .before .before .before .before .before .before .before .before .before .before .before .args .s .now) _ (c .before .before .before .before .before .before .before .before .before .before .before .before .before .before .args .out .now) _ (c .before .before .before .before .before .before .before .mark-gone .result) _ _ (c .before .before .before .before .before .before .before .mark-gone .ensures) (search needs) (c .before .if2 .taken) (c .refuse2 .ensures)
 
-put-kept-requires-2 : tie.Need-put-kept-requires-2
-put-kept-requires-2 c κs = search needs
+put-kept-requires : tie.Need-put-kept-requires
+put-kept-requires c κs = search needs
 
 same-length : tie.Need-same-length
 same-length c = search needs
 
 returns-3 : tie.Need-returns-3
-returns-3 c = answer-0 (c .before .before .before .before .before .before .before .before .before .before .before .before .before .before .before .before .args .s .now) _ (c .before .before .before .before .before .before .before .before .before .before .before .before .before .before .before .before .args .out .now) _ (c .before .before .before .before .before .before .before .before .before .before .before .put-kept .result) _ _ (c .before .before .before .before .before .before .before .before .before .before .before .put-kept .ensures) (search needs) (c .before .before .before .before .before .before .if2 .left) _ (c .before .before .put-kept2 .ensures)
+returns-3 c = answer-0 (c .before .before .before .before .before .before .before .before .before .before .before .before .before .before .before .before .before .before .before .args .s .now) _ (c .before .before .before .before .before .before .before .before .before .before .before .before .before .before .before .before .before .before .before .args .out .now) _ (c .before .before .before .before .before .before .before .before .before .before .before .before .mark-gone .result) _ _ (c .before .before .before .before .before .before .before .before .before .before .before .before .mark-gone .ensures) (search needs) (c .before .before .before .before .before .before .if2 .left) _ (c .before .before .put-kept .ensures)
 
-array-share-prefix-first : tie.Need-array-share-prefix-first
-array-share-prefix-first c = search needs
+slice-aggregate-put-between : tie.Need-slice-aggregate-put-between
+slice-aggregate-put-between c = search needs
 
-slice-aggregate-put-text : tie.Need-slice-aggregate-put-text
-slice-aggregate-put-text c = sym (length-take-le _ _ (omega arith))
+slice-aggregate-put-between-2 : tie.Need-slice-aggregate-put-between-2
+slice-aggregate-put-between-2 c = search needs
 
-put-text-requires : tie.Need-put-text-requires
-put-text-requires c κs = search needs
+put-between-requires : tie.Need-put-between-requires
+put-between-requires c κs = (omega (arith, c .before .before .before .before .before .before .before .before .before .before .starts2 .given), omega (arith, c .before .before .before .before .before .before .before .before .before .stops2 .given))
 
 same-length-2 : tie.Need-same-length-2
 same-length-2 c = search needs
 
 returns-4 : tie.Need-returns-4
-returns-4 c = answer-0 (c .before .before .before .before .before .before .before .before .before .before .before .before .before .before .before .before .before .args .s .now) _ (c .before .before .before .before .before .before .before .before .before .before .before .before .before .before .before .before .before .args .out .now) _ (c .before .before .before .before .before .before .before .before .before .before .before .before .put-kept .result) _ _ (c .before .before .before .before .before .before .before .before .before .before .before .before .put-kept .ensures) (search needs) (c .before .before .before .before .before .before .before .if2 .left) _ (copied _ _ _ _ _ _ (c .before .before .before .before .before .before .before .before .before .before .before .before .put-kept .ensures) (c .before .before .before .before .before .if3 .left) _ _ (c .before .before .put-text .ensures))
+returns-4 c = answer-0 (c .before .before .before .before .before .before .before .before .before .before .before .before .before .before .before .before .before .before .before .before .before .args .s .now) _ (c .before .before .before .before .before .before .before .before .before .before .before .before .before .before .before .before .before .before .before .before .before .args .out .now) _ (c .before .before .before .before .before .before .before .before .before .before .before .before .before .before .mark-gone .result) _ _ (c .before .before .before .before .before .before .before .before .before .before .before .before .before .before .mark-gone .ensures) (search needs) (c .before .before .before .before .before .before .before .before .if2 .left) _ (marked-wrote _ _ _ _ _ _ _ _ (c .before .before .before .before .before .before .before .before .before .before .before .before .before .before .mark-gone .ensures) (search needs) (omega (arith, c .before .before .before .before .before .before .before .before .before .before .before .before .before .starts2 .given)) (omega (arith, c .before .before .before .before .before .before .before .before .before .before .before .before .stops2 .given)) (c .before .before .put-between .ensures))
 
 pub strip-by-spec : {M : Type 1} → statement M
 strip-by-spec =
     tie.close
     (tie.spec
-    slice-aggregate-put-kept
-    put-kept-requires
+    slice-aggregate-mark-gone
+    slice-aggregate-mark-gone-2
+    mark-gone-requires
     refuse-requires
     returns
     refuse-requires-2
     returns-2
-    put-kept-requires-2
+    put-kept-requires
     same-length
     returns-3
-    array-share-prefix-first
-    slice-aggregate-put-text
-    put-text-requires
+    slice-aggregate-put-between
+    slice-aggregate-put-between-2
+    put-between-requires
     same-length-2
     returns-4)

@@ -4,7 +4,7 @@ use mathlib.Core.Path.{sym}
 use lib.Seq.{length-take-le}
 use Rattle.sequences.proofs.Splices.{put-long}
 use Rattle.authserv_rules.proofs.OwnLists.{list-length}
-use Rattle.strip.proofs.Ends.{answer-spelled}
+use Rattle.strip.proofs.Ends.{answer-spelled, spelled-room}
 use borrow.Author.Needs.{needs}
 use Rattle.strip.proofs.strip_spelled.Statement.{statement}
 use Rattle.strip.proofs.strip_spelled.Tie as tie
@@ -18,17 +18,17 @@ spell-list-requires c κs = search needs
 array-share-prefix-own : tie.Need-array-share-prefix-own
 array-share-prefix-own c = omega (arith, c .before .spell-list .ensures .count, list-length (c .before .before .before .before .before .before .args .list .now), put-long (c .before .spell-list .ensures))
 
-slice-aggregate-strip-by : tie.Need-slice-aggregate-strip-by
-slice-aggregate-strip-by c = sym (length-take-le _ _ (omega (arith, c .before .before .spell-list .ensures .count, list-length (c .before .before .before .before .before .before .before .args .list .now), put-long (c .before .before .spell-list .ensures))))
+slice-aggregate-strip-lines : tie.Need-slice-aggregate-strip-lines
+slice-aggregate-strip-lines c = sym (length-take-le _ _ (omega (arith, c .before .before .spell-list .ensures .count, list-length (c .before .before .before .before .before .before .before .args .list .now), put-long (c .before .before .spell-list .ensures))))
 
-strip-by-requires : tie.Need-strip-by-requires
-strip-by-requires c κs = search needs
+strip-lines-requires : tie.Need-strip-lines-requires
+strip-lines-requires c κs = spelled-room (c .before .before .before .before .before .before .before .before .args .list .now) _ _ _ (c .before .before .before .spell-list .ensures) (omega (arith, c .before .before .before .spell-list .ensures .count, list-length (c .before .before .before .before .before .before .before .before .args .list .now), put-long (c .before .before .before .spell-list .ensures)))
 
 same-length : tie.Need-same-length
 same-length c = search needs
 
 returns : tie.Need-returns
-returns c = answer-spelled (c .before .before .before .before .before .before .before .before .before .before .before .args .s .now) (c .before .before .before .before .before .before .before .before .before .before .before .args .list .now) (c .before .before .before .before .before .before .before .before .before .before .before .args .out .now) _ _ _ _ _ (c .before .before .before .before .before .before .spell-list .ensures) (omega (arith, c .before .before .before .before .before .before .spell-list .ensures .count, list-length (c .before .before .before .before .before .before .before .before .before .before .before .args .list .now), put-long (c .before .before .before .before .before .before .spell-list .ensures))) (c .before .before .strip-by .ensures)
+returns c = answer-spelled (c .before .before .before .before .before .before .before .before .before .before .before .args .s .now) (c .before .before .before .before .before .before .before .before .before .before .before .args .list .now) (c .before .before .before .before .before .before .before .before .before .before .before .args .out .now) _ _ _ _ _ (c .before .before .before .before .before .before .spell-list .ensures) (omega (arith, c .before .before .before .before .before .before .spell-list .ensures .count, list-length (c .before .before .before .before .before .before .before .before .before .before .before .args .list .now), put-long (c .before .before .before .before .before .before .spell-list .ensures))) (c .before .before .strip-lines .ensures)
 
 pub strip-spelled-spec : {M : Type 1} → statement M
 strip-spelled-spec =
@@ -37,7 +37,7 @@ strip-spelled-spec =
     slice-aggregate-spell-list
     spell-list-requires
     array-share-prefix-own
-    slice-aggregate-strip-by
-    strip-by-requires
+    slice-aggregate-strip-lines
+    strip-lines-requires
     same-length
     returns)

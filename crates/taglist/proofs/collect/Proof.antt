@@ -6,7 +6,8 @@ use borrow.Author.Needs.{needs}
 use lib.ListN.{length}
 use Rattle.tags.specs.declared.Tag.the-variants.{Read}
 use Rattle.tags.specs.Tags.{TagFound}
-use Rattle.taglist.proofs.Collecting.{Collecting, told-tag, collecting-start, collecting-twice, collecting-full, collecting-slot, collecting-on, collecting-end}
+use Rattle.taglist.proofs.TagsRead.{told-tag, found-named}
+use Rattle.taglist.proofs.Collecting.{Collecting, collecting-start, collecting-twice, collecting-full, collecting-slot, collecting-on, collecting-end}
 use Rattle.taglist.proofs.collect.Statement.{statement}
 use Rattle.taglist.proofs.collect.Tie as tie
 
@@ -41,7 +42,7 @@ part-slot-of-end : tie.Need-part-slot-of-end Inv-loop μ-loop
 part-slot-of-end c = omega (arith, found (c .before) .stands)
 
 slot-of-requires : tie.Need-slot-of-requires Inv-loop μ-loop
-slot-of-requires c κs = c .before .before .before .before .before .before .loop .inv .table
+slot-of-requires c κs = (c .before .before .before .before .before .before .loop .inv .table, found-named _ _ _ _ _ _ _ (found (c .before .before)))
 
 enum-told : tie.Need-enum-told Inv-loop μ-loop
 enum-told c = search needs
@@ -96,7 +97,7 @@ part-cv-after-end-2 : tie.Need-part-cv-after-end-2 Inv-loop μ-loop
 part-cv-after-end-2 c = omega (arith, found (c .before .before .before .before .before .before .before .before .before .before .before .before .before) .stands)
 
 cv-after-requires : tie.Need-cv-after-requires Inv-loop μ-loop
-cv-after-requires c κs = search needs
+cv-after-requires c κs = found-named _ _ _ _ _ _ _ (found (c .before .before .before .before .before .before .before .before .before .before .before .before .before .before))
 
 add-count : tie.Need-add-count Inv-loop μ-loop
 add-count c = omega arith
@@ -137,7 +138,7 @@ returns-3 : tie.Need-returns-3 Inv-loop μ-loop
 returns-3 c =
     let at-tag = c .before .before .before in
     let missing = told-tag _ _ _ _ (c .before .enum-told2 .given .1) (at-tag .tag-at .ensures) in
-    collecting-end _ _ _ _ _ _ _ (at-tag .before .loop .inv) _ missing (c .ended .ensures)
+    collecting-end _ _ _ _ _ _ _ (at-tag .before .loop .inv) _ _ missing (c .ended .ensures)
 
 pub collect-spec : {M : Type 1} → statement M
 collect-spec =

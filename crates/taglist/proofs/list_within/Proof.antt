@@ -1,6 +1,6 @@
 -- `taglist::list_within` meets its contract: a small table serves unless it is full. Assumes nothing.
-use borrow.Author.Needs.{needs}
 use Rattle.taglist.proofs.TagLists.{attempt-read, attempt-unreadable}
+use borrow.Author.Needs.{needs}
 use Rattle.taglist.proofs.list_within.Statement.{statement}
 use Rattle.taglist.proofs.list_within.Tie as tie
 
@@ -23,13 +23,19 @@ list-of-many-requires : tie.Need-list-of-many-requires
 list-of-many-requires c κs = search needs
 
 returns : tie.Need-returns
-returns c = search attempt-read
+returns c = search needs
+
+list-of-some-requires : tie.Need-list-of-some-requires
+list-of-some-requires c κs = search needs
 
 returns-2 : tie.Need-returns-2
-returns-2 c = search attempt-unreadable
+returns-2 c = search attempt-read
 
 returns-3 : tie.Need-returns-3
-returns-3 c = search needs
+returns-3 c = search attempt-unreadable
+
+returns-4 : tie.Need-returns-4
+returns-4 c = search needs
 
 pub list-within-spec : {M : Type 1} → statement M
 list-within-spec =
@@ -42,5 +48,7 @@ list-within-spec =
     enum-told-2
     list-of-many-requires
     returns
+    list-of-some-requires
     returns-2
-    returns-3)
+    returns-3
+    returns-4)

@@ -3,7 +3,7 @@ use Prim.Native.Nat.{_-_, _≤_}
 use native.Mathlib.Omega.{arith}
 use borrow.Author.Needs.{needs}
 use Rattle.texts.specs.Internal.{Compared}
-use Rattle.texts.proofs.Texts.{compared-none, compared-on, compared-off, compared-all}
+use Rattle.texts.proofs.Texts.{compared-none, compared-more, compared-all}
 use Rattle.texts.proofs.differ.Statement.{statement}
 use Rattle.texts.proofs.differ.Tie as tie
 
@@ -41,16 +41,7 @@ loop-less : tie.Need-loop-less Inv-loop μ-loop
 loop-less c = omega arith
 
 loop-again : tie.Need-loop-again Inv-loop μ-loop
-loop-again c = (omega arith, compared-off (c .before .before .before .before .before .before .before .before .before .args .a .now) (c .before .before .before .before .before .before .before .before .before .args .b .now) _ _ _ (c .before .before .before .before .before .before .loop .inv .1) (omega arith) (omega arith) _ _ (c .before .before .before .lower .ensures) (c .before .lower2 .ensures) (c .if1 .taken))
-
-add-j-2 : tie.Need-add-j-2 Inv-loop μ-loop
-add-j-2 c = omega arith
-
-loop-less-2 : tie.Need-loop-less-2 Inv-loop μ-loop
-loop-less-2 c = omega arith
-
-loop-again-2 : tie.Need-loop-again-2 Inv-loop μ-loop
-loop-again-2 c = (omega arith, compared-on (c .before .before .before .before .before .before .before .before .before .args .a .now) (c .before .before .before .before .before .before .before .before .before .args .b .now) _ _ _ (c .before .before .before .before .before .before .loop .inv .1) (omega arith) (omega arith) _ _ (c .before .before .before .lower .ensures) (c .before .lower2 .ensures) (c .if1 .left))
+loop-again c = (omega arith, compared-more _ _ _ _ _ (c .before .before .before .before .before .loop .inv .1) (omega arith) (omega arith) _ _ (c .before .before .lower .ensures) (c .lower2 .ensures))
 
 returns : tie.Need-returns Inv-loop μ-loop
 returns c = search compared-all
@@ -71,7 +62,4 @@ differ-spec =
     add-j
     loop-less
     loop-again
-    add-j-2
-    loop-less-2
-    loop-again-2
     returns)

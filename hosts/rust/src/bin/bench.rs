@@ -1,4 +1,5 @@
-//! Measures the five calls: `cargo run --release --bin bench`.
+//! Measures the five calls: `cargo run --release --bin bench`, and with `-- --counts` the
+//! instructions of the realistic calls, counted by valgrind, which are the same on each run.
 //!
 //! The linked library, the independent implementation and a copy of the same bytes take turns,
 //! and the best of many short rounds counts, so that whatever else the machine does matters
@@ -6,6 +7,7 @@
 //! last column says how much longer these take than half as many bytes: about 2 is linear.
 
 use std::hint::black_box;
+use std::process::{Command, ExitCode};
 use std::time::{Duration, Instant};
 
 use orbendash_host as library;
@@ -238,7 +240,7 @@ fn measure<const N: usize>(calls: [&Call; N]) -> [Times; N] {
 fn print_row(call: &Call, input: &str, times: &Times, growth: Option<f64>) {
     let growth = growth.map_or("-".to_string(), |growth| format!("{growth:.2}"));
     println!(
-        "{:<11}{:<36}{:>6}{:>8}{:>13.0}{:>11.2}{:>9.1}{:>12}",
+        "{:<11}{:<40}{:>6}{:>8}{:>13.0}{:>11.2}{:>9.1}{:>12}",
         call.name(),
         input,
         times.number,
@@ -268,7 +270,8 @@ fn adversarial(input: &str, make: impl Fn(usize) -> Call) {
 
 // Inputs.
 
-/// A header block as a mailing list's subscriber may get it: 30 fields, two ARC sets.
+/// A header block as a mailing list's subscriber may get it: 32 fields, three of them
+/// Authentication-Results, and two ARC sets; 6.5 KB.
 fn mail() -> Vec<u8> {
     let mut block = String::from(
         "Return-Path: <bounces+user=example.com@lists.example.org>\r\n\
@@ -312,6 +315,12 @@ fn mail() -> Vec<u8> {
     }
     block += &format!(
         "Authentication-Results: relay.example.net; dkim=pass header.d=sender.example\r\n\
+         Authentication-Results: mail.sender.example;\r\n\
+         \tauth=pass (plain) smtp.auth=somebody.else@sender.example\r\n\
+         Received-SPF: pass (mx.example.com: the policy that was found asks for no other check than\r\n\
+         \tthis one, so it is enough: domain of lists.example.org designates 192.0.2.17 as permitted\r\n\
+         \tsender) client-ip=192.0.2.17; envelope-from=\"bounces@lists.example.org\";\r\n\
+         \thelo=relay-6.example.net;\r\n\
          DKIM-Signature: v=1; a=rsa-sha256; c=relaxed/relaxed; d=lists.example.org; s=dk2024;\r\n\
          \tt=1700000000; h=from:to:subject:date:list-id; bh=KWSe46TZKCcDbH4klJPo+tjk5LWJnVRlP5pvjXFZYLQ=;\r\n\
          \tb={signature}\r\n\
@@ -320,7 +329,8 @@ fn mail() -> Vec<u8> {
          \tb={signature}\r\n\
          From: Somebody Else <somebody.else@sender.example>\r\n\
          To: The List <list@lists.example.org>\r\n\
-         Subject: Re: [list] How the header fields of a forwarded message add up\r\n\
+         Subject: Re: [list] How the header fields of a forwarded message add up, and\r\n\
+         \twhat a gateway between two lists may still rely on when it has read them all\r\n\
          Date: Tue, 14 Nov 2023 23:13:20 +0100\r\n\
          Message-ID: <54B84785.1060301@sender.example>\r\n\
          In-Reply-To: <CAGx7y2@mail.sender.example>\r\n\
@@ -334,6 +344,15 @@ fn mail() -> Vec<u8> {
     );
     block.into_bytes()
 }
+
+/// One field body as a large receiver writes it, with comments; 384 bytes.
+const FIELD: &str = " mx.example.com;\r\n\
+     \tdkim=pass (2048-bit key; unprotected) header.d=lists.example.org\r\n\
+     \t header.i=@lists.example.org header.s=dk2024 header.b=oINEO8hg;\r\n\
+     \tspf=pass (mx.example.com: domain of bounces@lists.example.org designates 192.0.2.17\r\n\
+     \t as permitted sender) smtp.mailfrom=bounces@lists.example.org;\r\n\
+     \tdmarc=pass (p=none; dis=none) header.from=sender.example;\r\n\
+     \tarc=pass (i=2) (as.2)";
 
 /// A piece as often as it fits between a start and an end.
 fn filled(size: usize, start: &[u8], piece: &[u8], end: &[u8]) -> Vec<u8> {
@@ -436,6 +455,28 @@ fn letters(number: usize) -> String {
         .collect()
 }
 
+/// A number in three digits of base 36, in the order of bytes.
+fn rising(number: usize) -> String {
+    const DIGITS: &[u8; 36] = b"0123456789abcdefghijklmnopqrstuvwxyz";
+    [1296, 36, 1]
+        .map(|worth| char::from(DIGITS[number / worth % 36]))
+        .iter()
+        .collect()
+}
+
+/// As many whole fields as fit the size, up to 512.
+fn seals(size: usize, start: impl Fn(usize) -> String) -> Vec<u8> {
+    let mut block = Vec::new();
+    for index in 0..512 {
+        let field = start(index) + "\r\n";
+        if block.len() + field.len() > size {
+            break;
+        }
+        block.extend(field.bytes());
+    }
+    block
+}
+
 /// An input made of one piece, as often as it fits: name, start, piece, end.
 type Filled = (&'static str, &'static [u8], &'static [u8], &'static [u8]);
 
@@ -528,7 +569,7 @@ fn all_filled(rows: &[Filled], call: impl Fn(Vec<u8>) -> Call) {
 
 fn strip_rows(mail: &[u8]) {
     let own = b"mx.example.com\nexample.com\n";
-    realistic("mail of 30 fields", strip(mail.to_vec(), own));
+    realistic("mail of 32 fields", strip(mail.to_vec(), own));
     let appendix_b = APPENDIX_B.map(|(body, _)| format!("Authentication-Results:{body}\r\n"));
     realistic(
         "Appendix B as a block",
@@ -536,14 +577,14 @@ fn strip_rows(mail: &[u8]) {
     );
     let with_a_label = b"mx.example.com\nxn--bcher-kva.example\n";
     realistic(
-        "mail of 30 fields, one A-label",
+        "mail of 32 fields, one A-label",
         strip(mail.to_vec(), with_a_label),
     );
     let short: Vec<u8> = (0..64)
         .flat_map(|n| format!("xn--bcher-kva.mx-{n}.example\n").into_bytes())
         .collect();
     realistic(
-        "mail of 30 fields, 64 A-labels",
+        "mail of 32 fields, 64 A-labels",
         strip(mail.to_vec(), &short),
     );
     all_filled(FIELDS, |block| strip(block, own));
@@ -606,17 +647,24 @@ fn a_label_rows() {
     });
 }
 
-fn report_rows(mail: &[u8]) {
+/// Thirty of them have a report of more than the kilobyte that is written in one pass.
+const LONG_RESULT: &[u8] = b";spf=pass smtp.mailfrom=bounces.lists.example.org";
+
+fn report_rows() {
     let bodies = APPENDIX_B
         .map(|(body, _)| body.as_bytes().to_vec())
         .to_vec();
     realistic("Appendix B, all bodies", Call::Report { bodies });
-    let first = library::fields(mail)
-        .filter_map(Result::ok)
-        .find(|field| field.name == b"Authentication-Results")
-        .expect("the mail has one");
-    realistic("first of the mail", report(first.body.to_vec()));
+    realistic("one field of 384 bytes", report(FIELD.into()));
     all_filled(BODIES, report);
+    for (name, piece) in [
+        ("comments 16 deep behind a long report", DEEP),
+        ("short comments behind a long report", b"( )"),
+        ("folds behind a long report", b"\r\n "),
+    ] {
+        let start = [b"a".to_vec(), LONG_RESULT.repeat(30)].concat();
+        adversarial(name, |size| report(filled(size, &start, piece, b"")));
+    }
 }
 
 fn write_rows() {
@@ -630,10 +678,24 @@ fn write_rows() {
 
 fn judge_rows(mail: &[u8]) {
     let (block, verdicts) = (mail.to_vec(), vec![3, 3]);
-    realistic("mail of 30 fields, 2 sets", Call::Judge { block, verdicts });
+    realistic("mail of 32 fields, 2 sets", Call::Judge { block, verdicts });
     all_filled(SEALS, judge);
     adversarial("one seal, thousands of tags", |size| {
         judge(tags(size, letters))
+    });
+    adversarial("one seal, tags in falling order", |size| {
+        judge(tags(size, |n| format!("e{}", rising(46_655 - n))))
+    });
+    adversarial("one seal, tags in mixed order", |size| {
+        judge(tags(size, |n| format!("e{}", rising(n * 7919 % 46_656))))
+    });
+    adversarial("512 seals of 33 tags", |size| {
+        let names = || (b'A'..=b'Z').chain([b'x', b'y']).map(char::from);
+        let start = |n| {
+            let more: String = names().map(|name| format!("{name}=;")).collect();
+            format!("ARC-Seal:i={};a=;b=;d=;s=;{more}cv=pass", n % 50 + 1)
+        };
+        judge(seals(size, start))
     });
     adversarial("one seal, tags, the last one twice", |size| {
         let mut block = tags(size - 6, letters);
@@ -668,14 +730,14 @@ fn field_rows(mail: &[u8]) {
         place: block.len(),
         block,
     };
-    realistic("mail of 30 fields, to its end", to_the_end(mail.to_vec()));
+    realistic("mail of 32 fields, to its end", to_the_end(mail.to_vec()));
     all_filled(WALKED, to_the_end);
     let many = |size| fields(size, 512, |_| "X:".to_string());
     adversarial("512 fields, to the end", |size| to_the_end(many(size)));
     for (on_rest, how) in [(false, "by place"), (true, "on the rest")] {
         let block = mail.to_vec();
         realistic(
-            &format!("mail of 30 fields, {how}"),
+            &format!("mail of 32 fields, {how}"),
             Call::Walk { block, on_rest },
         );
         adversarial(&format!("512 fields, {how}"), |size| {
@@ -685,16 +747,135 @@ fn field_rows(mail: &[u8]) {
     }
 }
 
-fn main() {
+/// The realistic calls, by name.
+fn realistic_calls() -> Vec<(&'static str, Call)> {
+    let mail = mail();
+    let own = b"mx.example.com\nexample.com\n";
+    let bodies = APPENDIX_B
+        .map(|(body, _)| body.as_bytes().to_vec())
+        .to_vec();
+    let reports = APPENDIX_B
+        .map(|(_, lines)| lines.as_bytes().to_vec())
+        .to_vec();
+    let (block, place) = (mail.clone(), mail.len());
+    let verdicts = vec![3, 3];
+    vec![
+        ("Appendix B, all bodies", Call::Report { bodies }),
+        ("one field of 384 bytes", report(FIELD.into())),
+        ("mail of 32 fields", strip(mail.clone(), own)),
+        (
+            "mail of 32 fields, 2 sets",
+            Call::Judge {
+                block: mail,
+                verdicts,
+            },
+        ),
+        (
+            "mail of 32 fields, to its end",
+            Call::NextField { block, place },
+        ),
+        ("Appendix B, all reports", Call::Write { reports }),
+    ]
+}
+
+/// What is counted: everything inside this function.
+#[unsafe(no_mangle)]
+#[inline(never)]
+fn bench_counted(call: &Call, out: &mut [u8], independent: bool) -> u8 {
+    if independent {
+        call.reference(out)
+    } else {
+        call.library(out)
+    }
+}
+
+/// The instructions of one realistic call: this program is run once more under valgrind.
+fn instructions(number: usize, independent: bool) -> Result<u64, String> {
+    let program = std::env::current_exe().map_err(|error| error.to_string())?;
+    let which = if independent {
+        "independent"
+    } else {
+        "library"
+    };
+    let run = Command::new("valgrind")
+        .args(["--tool=callgrind", "--callgrind-out-file=/dev/null"])
+        .arg("--toggle-collect=bench_counted")
+        .arg(program)
+        .args(["--one", which, &number.to_string()])
+        .output()
+        .map_err(|error| format!("valgrind can't be run: {error}"))?;
+    let told = String::from_utf8_lossy(&run.stderr);
+    if !run.status.success() {
+        return Err(format!("valgrind failed:\n{told}"));
+    }
+    told.lines()
+        .find_map(|line| line.split("Collected : ").nth(1))
+        .and_then(|count| count.trim().parse().ok())
+        .ok_or_else(|| format!("valgrind told no count:\n{told}"))
+}
+
+fn print_counts() -> Result<(), String> {
     println!(
-        "{:<11}{:<36}{:>6}{:>8}{:>13}{:>11}{:>9}{:>12}",
+        "{:<11}{:<36}{:>14}{:>14}{:>9}",
+        "call", "input", "instructions", "reference", "ratio"
+    );
+    for (number, (input, call)) in realistic_calls().iter().enumerate() {
+        let library = instructions(number, false)?;
+        let reference = instructions(number, true)?;
+        println!(
+            "{:<11}{:<36}{:>14}{:>14}{:>9.2}",
+            call.name(),
+            input,
+            library,
+            reference,
+            library as f64 / reference as f64
+        );
+    }
+    Ok(())
+}
+
+/// Runs one realistic call, for valgrind to count.
+fn run_one(which: &str, number: &str) -> Option<u8> {
+    let calls = realistic_calls();
+    let (_, call) = calls.get(number.parse::<usize>().ok()?)?;
+    let mut out = vec![0; 3 * call.input().len() + 8];
+    Some(bench_counted(call, &mut out, which == "independent"))
+}
+
+fn print_times() {
+    println!(
+        "{:<11}{:<40}{:>6}{:>8}{:>13}{:>11}{:>9}{:>12}",
         "call", "input", "answer", "bytes", "ns per call", "/reference", "/memcpy", "32K to 64K"
     );
     let mail = mail();
-    assert_eq!(library::fields(&mail).count(), 30);
+    assert_eq!(library::fields(&mail).count(), 32);
     strip_rows(&mail);
-    report_rows(&mail);
+    report_rows();
     write_rows();
     judge_rows(&mail);
     field_rows(&mail);
+}
+
+fn main() -> ExitCode {
+    let words: Vec<String> = std::env::args().skip(1).collect();
+    let words: Vec<&str> = words.iter().map(String::as_str).collect();
+    let told = match words.as_slice() {
+        [] => {
+            print_times();
+            Ok(())
+        }
+        ["--counts"] => print_counts(),
+        ["--one", which, number] => match run_one(which, number) {
+            Some(_) => Ok(()),
+            None => Err("there is no such call".to_string()),
+        },
+        _ => Err("usage: bench [--counts]".to_string()),
+    };
+    match told {
+        Ok(()) => ExitCode::SUCCESS,
+        Err(error) => {
+            eprintln!("bench: {error}");
+            ExitCode::FAILURE
+        }
+    }
 }

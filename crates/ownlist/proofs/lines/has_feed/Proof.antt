@@ -7,7 +7,7 @@ use mathlib.Core.Bool.{false}
 use borrow.Author.Needs.{needs}
 use Rattle.reading.specs.Places.{Reaches}
 use Rattle.reading.proofs.Loops.{piece-none, piece-all}
-use Rattle.ownlist.specs.Internal.{untilFeed}
+use Rattle.authserv_rules.specs.Ends.{untilFeed}
 use Rattle.ownlist.proofs.Feeds.{feed-piece}
 use Rattle.ownlist.proofs.lines.has_feed.Statement.{statement}
 use Rattle.ownlist.proofs.lines.has_feed.Tie as tie

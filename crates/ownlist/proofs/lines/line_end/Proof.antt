@@ -5,7 +5,7 @@ use borrow.Author.Needs.{needs}
 use lib.ListN.{length}
 use Rattle.reading.specs.Places.{Reaches}
 use Rattle.reading.proofs.Loops.{reaches-start, reaches-found, text-on}
-use Rattle.ownlist.specs.Internal.{feedless, untilFeed}
+use Rattle.authserv_rules.specs.Ends.{feedless, untilFeed}
 use Rattle.ownlist.proofs.lines.line_end.Statement.{statement}
 use Rattle.ownlist.proofs.lines.line_end.Tie as tie
 

@@ -5,7 +5,7 @@ use borrow.Author.Needs.{needs}
 use lib.ListN.{length}
 use Rattle.reading.specs.Places.{Reaches}
 use Rattle.reading.proofs.Loops.{reaches-start, run-out}
-use Rattle.ownlist.specs.Internal.{untilFeed}
+use Rattle.authserv_rules.specs.Ends.{untilFeed}
 use Rattle.ownlist.proofs.Feeds.{feed-on, feed-off}
 use Rattle.ownlist.proofs.lines.near_feed.Statement.{statement}
 use Rattle.ownlist.proofs.lines.near_feed.Tie as tie

@@ -8,7 +8,8 @@ put-reason-requires : tie.Need-put-reason-requires
 put-reason-requires c κs = details-room _ _ _ (c .before .before .before .pre)
 
 put-properties-requires : tie.Need-put-properties-requires
-put-properties-requires c κs = details-rest _ _ _ (c .before .before .before .before .before .before .before .pre) _ _ _ (c .before .before .before .put-reason .ensures)
+put-properties-requires c κs =
+    (c .before .before .before .put-reason .ensures .gap, details-rest _ _ _ (c .before .before .before .before .before .before .before .pre) _ _ _ (c .before .before .before .put-reason .ensures))
 
 same-length : tie.Need-same-length
 same-length c = search needs

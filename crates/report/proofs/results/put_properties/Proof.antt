@@ -5,35 +5,41 @@ use mathlib.Core.Path.{_≡_, sym, _∙_}
 use lib.ListN.{length}
 use borrow.Author.Needs.{needs}
 use Rattle.resinfo.specs.declared.Step.the-variants.{Property}
-use Rattle.resinfo.specs.Steps.{stepAt}
-use Rattle.report.proofs.Turns.{TypeStands, property-places, Writing, writing-start, writing-further, writing-more, written-done, written-refused}
+use Rattle.resinfo.specs.Steps.{stepFrom}
+use Rattle.report.proofs.Turns.{TypeStands, property-places, Writing, writing-start, writing-further, writing-more, written-all}
 use Rattle.report.proofs.results.put_properties.Statement.{statement}
 use Rattle.report.proofs.results.put_properties.Tie as tie
 
 abbrev Inv-loop : tie.InvT-loop
-Inv-loop s at out₀ to i₀ n₀ known₀ out i n known = Writing s at out₀ to out i n known
+Inv-loop s at gap out₀ to i₀ a₀ n₀ known₀ out i a n known = Writing s at out₀ to out i a n known
 
 abbrev μ-loop : tie.MeasureT-loop
-μ-loop s at out₀ to i₀ n₀ known₀ out i n known = length s - i
+μ-loop s at gap out₀ to i₀ a₀ n₀ known₀ out i a n known = length s - i
 
 -- the property that a turn takes, and where it stands
 step : (c : tie.After-known-told Inv-loop μ-loop)
     → Property (c .before .type-start .given .0 .0) (c .before .type-start .given .0 .1 .0) (c .before .type-start .given .0 .1 .1 .0) (c .before .type-start .given .0 .1 .1 .1 .0) (c .before .type-start .given .0 .1 .1 .1 .1 .0) (c .before .type-start .given .0 .1 .1 .1 .1 .1 .0)
-    ≡ stepAt (c .before .before .before .before .before .before .before .args .s .now) (c .before .before .before .before .loop .i)
-step c = sym (c .before .type-start .given .1) ∙ c .before .before .before .step-at .ensures
+    ≡ stepFrom (c .before .before .before .before .before .before .before .args .s .now) (c .before .before .before .before .loop .i) (c .before .before .before .before .loop .a)
+step c = sym (c .before .type-start .given .1) ∙ c .before .before .before .step-from .ensures
 
 near : (c : tie.After-known-told Inv-loop μ-loop)
     → TypeStands (c .before .before .before .before .before .before .before .args .s .now) (c .before .type-start .given .0 .0) (c .before .type-start .given .0 .1 .0)
-near c = property-places _ _ _ _ _ _ _ _ (step c)
+near c = property-places _ _ _ (c .before .before .before .before .loop .inv .gap) _ _ _ _ _ _ (step c)
 
 loop-holds : tie.Need-loop-holds Inv-loop μ-loop
-loop-holds c = writing-start _ _ _ _
+loop-holds c = writing-start _ _ _ _ _ (c .before .before .pre .0)
 
-step-at-requires : tie.Need-step-at-requires Inv-loop μ-loop
-step-at-requires c κs = search needs
+step-from-requires : tie.Need-step-from-requires Inv-loop μ-loop
+step-from-requires c κs = search needs
 
 enum-known-type-start : tie.Need-enum-known-type-start Inv-loop μ-loop
 enum-known-type-start c = search needs
+
+same-length : tie.Need-same-length Inv-loop μ-loop
+same-length c = c .before .before .loop .inv .left .long
+
+returns : tie.Need-returns Inv-loop μ-loop
+returns c = written-all _ _ _ _ _ _ _ _ _ (c .before .before .loop .inv) _ (c .match .keys2) (c .before .step-from .ensures)
 
 sub-knows-ptype : tie.Need-sub-knows-ptype Inv-loop μ-loop
 sub-knows-ptype c = omega (arith, near c)
@@ -50,29 +56,17 @@ knows-ptype-requires c κs = search needs
 put-property-requires : tie.Need-put-property-requires Inv-loop μ-loop
 put-property-requires c κs = search needs
 
+space-end-requires : tie.Need-space-end-requires Inv-loop μ-loop
+space-end-requires c κs = search needs
+
 loop-less : tie.Need-loop-less Inv-loop μ-loop
-loop-less c = omega (arith, writing-further _ _ _ _ _ _ _ _ (c .before .before .before .before .before .before .before .before .before .before .loop .inv) _ _ _ _ _ _ (step (c .before .before .before .before .before .before)))
+loop-less c = omega (arith, writing-further _ _ _ _ _ _ _ _ _ (c .before .before .before .before .before .before .before .before .before .before .before .loop .inv) _ _ _ _ _ _ (step (c .before .before .before .before .before .before .before)))
 
 loop-again : tie.Need-loop-again Inv-loop μ-loop
-loop-again c = writing-more _ _ _ _ _ _ _ _ (c .before .before .before .before .before .before .before .before .before .before .loop .inv) _ _ _ _ _ _ (step (c .before .before .before .before .before .before)) (c .before .before .before .before .before .before .before .before .before .before .before .before .before .pre) _ (c .before .before .before .before .knows-ptype .ensures) _ _ (c .before .before .put-property .ensures)
-
-enum-told : tie.Need-enum-told Inv-loop μ-loop
-enum-told c = search needs
-
-same-length : tie.Need-same-length Inv-loop μ-loop
-same-length c = c .before .before .before .loop .inv .left .long
-
-returns : tie.Need-returns Inv-loop μ-loop
-returns c = written-done _ _ _ _ _ _ _ _ (c .before .before .before .loop .inv) (sym (c .enum-told .given .1) ∙ c .before .before .step-at .ensures)
-
-enum-told-2 : tie.Need-enum-told-2 Inv-loop μ-loop
-enum-told-2 c = search needs
-
-same-length-2 : tie.Need-same-length-2 Inv-loop μ-loop
-same-length-2 c = c .before .before .before .loop .inv .left .long
-
-returns-2 : tie.Need-returns-2 Inv-loop μ-loop
-returns-2 c = written-refused _ _ _ _ _ _ _ _ (c .before .before .before .loop .inv) (sym (c .enum-told2 .given .1) ∙ c .before .before .step-at .ensures)
+loop-again c =
+    writing-more _ _ _ _ _ _ _ _ _ (c .before .before .before .before .before .before .before .before .before .before .before .loop .inv) _ _ _ _ _ _
+    (step (c .before .before .before .before .before .before .before)) (c .before .before .before .before .before .before .before .before .before .before .before .before .before .before .pre .1)
+    _ (c .before .before .before .before .before .knows-ptype .ensures) _ _ (c .before .before .before .put-property .ensures) _ (c .space-end .ensures)
 
 pub put-properties-spec : {M : Type 1} → statement M
 put-properties-spec =
@@ -81,18 +75,15 @@ put-properties-spec =
     Inv-loop
     μ-loop
     loop-holds
-    step-at-requires
+    step-from-requires
     enum-known-type-start
+    same-length
+    returns
     sub-knows-ptype
     part-knows-ptype-start
     part-knows-ptype-end
     knows-ptype-requires
     put-property-requires
+    space-end-requires
     loop-less
-    loop-again
-    enum-told
-    same-length
-    returns
-    enum-told-2
-    same-length-2
-    returns-2)
+    loop-again)

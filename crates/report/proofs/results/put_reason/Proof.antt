@@ -5,14 +5,20 @@ use borrow.Author.Needs.{needs}
 use Rattle.report.proofs.results.put_reason.Statement.{statement}
 use Rattle.report.proofs.results.put_reason.Tie as tie
 
-reason-at-requires : tie.Need-reason-at-requires
-reason-at-requires c κs = search needs
+space-end-requires : tie.Need-space-end-requires
+space-end-requires c κs = search needs
+
+reason-from-requires : tie.Need-reason-from-requires
+reason-from-requires c κs = search needs
 
 enum-known-start : tie.Need-enum-known-start
 enum-known-start c = search needs
 
 put-reason-requires : tie.Need-put-reason-requires
 put-reason-requires c κs = search needs
+
+space-end-requires-2 : tie.Need-space-end-requires-2
+space-end-requires-2 c κs = search needs
 
 enum-told : tie.Need-enum-told
 enum-told c = search needs
@@ -21,19 +27,22 @@ same-length : tie.Need-same-length
 same-length c = search needs
 
 returns : tie.Need-returns
-returns c = reason-put _ _ _ _ _ (sym (c .before .before .before .before .before .start .given .1) ∙ c .before .before .before .before .before .before .before .reason-at .ensures) _ _ _ _
-    (c .before .before .before .before .before .before .before .before .before .before .pre) (c .before .before .put-reason .ensures)
+returns c =
+    reason-put _ _ _ (c .before .before .before .before .before .before .before .before .before .space-end .ensures) _ _ _ (sym (c .before .before .before .before .before .before .start .given .1) ∙ c .before .before .before .before .before .before .before .before .reason-from .ensures) _ _ _ _
+    (c .before .before .before .before .before .before .before .before .before .before .before .before .pre) (c .before .before .before .put-reason .ensures) _ (c .space-end2 .ensures)
 
 returns-2 : tie.Need-returns-2
-returns-2 c = reason-absent _ _ (sym (c .enum-told .given .1) ∙ c .before .before .reason-at .ensures) _ _
+returns-2 c = reason-absent _ _ _ (c .before .before .before .space-end .ensures) (sym (c .enum-told .given .1) ∙ c .before .before .reason-from .ensures) _ _
 
 pub put-reason-spec : {M : Type 1} → statement M
 put-reason-spec =
     tie.close
     (tie.spec
-    reason-at-requires
+    space-end-requires
+    reason-from-requires
     enum-known-start
     put-reason-requires
+    space-end-requires-2
     enum-told
     same-length
     returns

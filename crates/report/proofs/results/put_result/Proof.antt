@@ -12,18 +12,18 @@ use Rattle.report.proofs.results.put_result.Tie as tie
 -- the method that was found, and where it stands
 found : (c : tie.After-known-told)
     → Read (c .before .start .given .0 .0) (c .before .start .given .0 .1 .0) (c .before .start .given .0 .1 .1 .0) (c .before .start .given .0 .1 .1 .1 .0) (c .before .start .given .0 .1 .1 .1 .1 .0)
-    ≡ methodAt (c .before .before .before .before .before .before .before .before .args .s .now) (c .before .before .before .before .before .mark-end .result)
+    ≡ methodAt (c .before .before .before .before .before .before .before .before .args .s .now) (c .before .before .before .before .before .mark-from .result)
 found c = sym (c .before .start .given .1) ∙ c .before .before .before .method-at .ensures
 
 near : (c : tie.After-known-told)
-    → MethodPlaces (c .before .before .before .before .before .before .before .before .args .s .now) (c .before .before .before .before .before .mark-end .result) (c .before .start .given .0 .0) (c .before .start .given .0 .1 .0) (c .before .start .given .0 .1 .1 .1 .0) (c .before .start .given .0 .1 .1 .1 .1 .0)
+    → MethodPlaces (c .before .before .before .before .before .before .before .before .args .s .now) (c .before .before .before .before .before .mark-from .result) (c .before .start .given .0 .0) (c .before .start .given .0 .1 .0) (c .before .start .given .0 .1 .1 .1 .0) (c .before .start .given .0 .1 .1 .1 .1 .0)
 near c = method-places _ _ _ _ _ _ _ (found c)
 
-mark-end-requires : tie.Need-mark-end-requires
-mark-end-requires c κs = search needs
+mark-from-requires : tie.Need-mark-from-requires
+mark-from-requires c κs = search needs
 
 returns : tie.Need-returns
-returns c = (no-mark _ _ _ (c .before .mark-end .ensures) (c .if1 .taken), refl)
+returns c = (no-mark _ _ _ (c .before .before .before .before .pre .0) _ (c .before .mark-from .ensures) (c .if1 .taken), refl)
 
 method-at-requires : tie.Need-method-at-requires
 method-at-requires c κs = search needs
@@ -56,7 +56,7 @@ put-method-requires : tie.Need-put-method-requires
 put-method-requires c κs = search needs
 
 put-details-requires : tie.Need-put-details-requires
-put-details-requires c κs = turn-rest _ _ _ (c .before .before .before .before .before .before .before .before .before .before .before .before .before .mark-end .ensures) (c .before .before .before .before .before .before .before .before .before .before .before .before .if1 .left) _ _ _ _ _ (found (c .before .before .before .before .before .before .before .before)) _ (c .before .before .before .before .before .before .before .before .before .before .before .before .before .before .before .before .pre) _ _ _ (c .before .before .before .put-method .ensures)
+put-details-requires c κs = turn-rest _ _ _ (c .before .before .before .before .before .before .before .before .before .before .before .before .before .before .before .before .pre .0) _ (c .before .before .before .before .before .before .before .before .before .before .before .before .before .mark-from .ensures) (c .before .before .before .before .before .before .before .before .before .before .before .before .if1 .left) _ _ _ _ _ (found (c .before .before .before .before .before .before .before .before)) _ (c .before .before .before .before .before .before .before .before .before .before .before .before .before .before .before .before .pre .1) _ _ _ (c .before .before .before .put-method .ensures)
 
 both-requires : tie.Need-both-requires
 both-requires c κs = search needs
@@ -69,18 +69,18 @@ same-length c = search needs
 
 returns-2 : tie.Need-returns-2
 returns-2 c =
-    turn-read _ _ _ (c .before .before .before .before .before .before .before .before .before .before .before .before .before .before .before .before .before .mark-end .ensures) (c .before .before .before .before .before .before .before .before .before .before .before .before .before .before .before .before .if1 .left) _ _ _ _ _ (found (c .before .before .before .before .before .before .before .before .before .before .before .before))
-    _ (c .before .before .before .before .before .before .before .before .before .before .before .before .before .before .before .before .before .before .before .before .pre) _ _ _ (c .before .before .before .before .before .before .before .put-method .ensures)
+    turn-read _ _ _ (c .before .before .before .before .before .before .before .before .before .before .before .before .before .before .before .before .before .before .before .before .pre .0) _ (c .before .before .before .before .before .before .before .before .before .before .before .before .before .before .before .before .before .mark-from .ensures) (c .before .before .before .before .before .before .before .before .before .before .before .before .before .before .before .before .if1 .left) _ _ _ _ _ (found (c .before .before .before .before .before .before .before .before .before .before .before .before))
+    _ (c .before .before .before .before .before .before .before .before .before .before .before .before .before .before .before .before .before .before .before .before .pre .1) _ _ _ (c .before .before .before .before .before .before .before .put-method .ensures)
     _ (c .before .before .before .before .before .before .before .before .before .knows-method .ensures) _ _ (c .before .before .before .put-details .ensures) _ (c .both .ensures)
 
 returns-3 : tie.Need-returns-3
-returns-3 c = (no-method _ _ _ (c .before .before .before .before .mark-end .ensures) (c .before .before .before .if1 .left) (sym (c .enum-told .given .1) ∙ c .before .before .method-at .ensures), refl)
+returns-3 c = (no-method _ _ _ (c .before .before .before .before .before .before .before .pre .0) _ (c .before .before .before .before .mark-from .ensures) (c .before .before .before .if1 .left) (sym (c .enum-told .given .1) ∙ c .before .before .method-at .ensures), refl)
 
 pub put-result-spec : {M : Type 1} → statement M
 put-result-spec =
     tie.close
     (tie.spec
-    mark-end-requires
+    mark-from-requires
     returns
     method-at-requires
     enum-known-start

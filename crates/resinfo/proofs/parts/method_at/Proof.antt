@@ -13,8 +13,8 @@ returns c = search method-no-name
 method-version-at-requires : tie.Need-method-version-at-requires
 method-version-at-requires c κs = search needs
 
-mark-end-requires : tie.Need-mark-end-requires
-mark-end-requires c κs = search needs
+mark-from-requires : tie.Need-mark-from-requires
+mark-from-requires c κs = search needs
 
 returns-2 : tie.Need-returns-2
 returns-2 c = search method-no-equals
@@ -35,7 +35,7 @@ method-at-spec =
     keyword-end-requires
     returns
     method-version-at-requires
-    mark-end-requires
+    mark-from-requires
     returns-2
     keyword-end-requires-2
     returns-3

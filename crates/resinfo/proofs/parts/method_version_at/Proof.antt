@@ -4,8 +4,11 @@ use borrow.Author.Needs.{needs}
 use Rattle.resinfo.proofs.parts.method_version_at.Statement.{statement}
 use Rattle.resinfo.proofs.parts.method_version_at.Tie as tie
 
-mark-end-requires : tie.Need-mark-end-requires
-mark-end-requires c κs = search needs
+space-end-requires : tie.Need-space-end-requires
+space-end-requires c κs = search needs
+
+mark-from-requires : tie.Need-mark-from-requires
+mark-from-requires c κs = search needs
 
 returns : tie.Need-returns
 returns c = search version-no-slash
@@ -16,9 +19,20 @@ digits-at-requires c κs = search needs
 returns-2 : tie.Need-returns-2
 returns-2 c = search version-no-digits
 
+space-end-requires-2 : tie.Need-space-end-requires-2
+space-end-requires-2 c κs = search needs
+
 returns-3 : tie.Need-returns-3
 returns-3 c = search version-stated
 
 pub method-version-at-spec : {M : Type 1} → statement M
 method-version-at-spec =
-    tie.close (tie.spec mark-end-requires returns digits-at-requires returns-2 returns-3)
+    tie.close
+    (tie.spec
+    space-end-requires
+    mark-from-requires
+    returns
+    digits-at-requires
+    returns-2
+    space-end-requires-2
+    returns-3)

@@ -3,7 +3,7 @@
 use Prim.Native.Nat.{_-_}
 use native.Mathlib.Omega.{arith}
 use borrow.Author.Needs.{needs}
-use Rattle.taglist.proofs.Halving.{Halved, halved-start, halved-free, turn-inside, turn-up, turn-down, turn-same}
+use Rattle.taglist.proofs.Halving.{Halved, search-start, search-free, turn-up, turn-down, turn-same}
 use Rattle.taglist.proofs.seen.find.Statement.{statement}
 use Rattle.taglist.proofs.seen.find.Tie as tie
 
@@ -14,7 +14,7 @@ abbrev μ-loop : tie.MeasureT-loop
 μ-loop s table count name lo₀ hi₀ lo hi = hi - lo
 
 loop-holds : tie.Need-loop-holds Inv-loop μ-loop
-loop-holds c = search halved-start
+loop-holds c = search search-start
 
 sub-mid : tie.Need-sub-mid Inv-loop μ-loop
 sub-mid c = omega arith
@@ -30,18 +30,6 @@ shared-slice-read-wide c = omega arith
 
 wide-requires : tie.Need-wide-requires Inv-loop μ-loop
 wide-requires c κs = search needs
-
-name-end-requires : tie.Need-name-end-requires Inv-loop μ-loop
-name-end-requires c κs = search needs
-
-sub-compare : tie.Need-sub-compare Inv-loop μ-loop
-sub-compare c = omega arith
-
-part-compare-start : tie.Need-part-compare-start Inv-loop μ-loop
-part-compare-start c = omega arith
-
-part-compare-end : tie.Need-part-compare-end Inv-loop μ-loop
-part-compare-end c = search turn-inside
 
 compare-requires : tie.Need-compare-requires Inv-loop μ-loop
 compare-requires c κs = search needs
@@ -71,23 +59,10 @@ loop-less-2 : tie.Need-loop-less-2 Inv-loop μ-loop
 loop-less-2 c = omega arith
 
 loop-again-2 : tie.Need-loop-again-2 Inv-loop μ-loop
-loop-again-2 c =
-    let at-compare = c .before .before in
-    let at-end = at-compare .before .before in
-    let at-test = at-end .before .before .before in
-    turn-down _ _ _ _ _ _
-    (at-test .before .before .before .before .before .pre)
-    (at-test .before .loop .inv)
-    (at-test .loop-test .taken)
-    _ _
-    (at-end .before .wide .ensures)
-    (at-end .name-end .ensures)
-    _
-    (at-compare .compare .ensures)
-    (c .enum-told3 .given .1)
+loop-again-2 c = search turn-down
 
 returns-2 : tie.Need-returns-2 Inv-loop μ-loop
-returns-2 c = search halved-free
+returns-2 c = search search-free
 
 pub find-spec : {M : Type 1} → statement M
 find-spec =
@@ -101,10 +76,6 @@ find-spec =
     mul-wide
     shared-slice-read-wide
     wide-requires
-    name-end-requires
-    sub-compare
-    part-compare-start
-    part-compare-end
     compare-requires
     enum-told
     add-lo

@@ -1,0 +1,55 @@
+-- `block::name_end` meets its contract: from each place of the loop the name ends where it ends from the first. Assumes nothing.
+use Prim.Native.Nat.{_-_}
+use native.Mathlib.Omega.{arith}
+use borrow.Author.Needs.{needs}
+use lib.ListN.{length}
+use Rattle.reading.specs.Places.{Reaches}
+use Rattle.reading.proofs.Loops.{reaches-start, run-on, run-off, run-out}
+use Rattle.block_rules.specs.Fields.{name}
+use Rattle.block.proofs.name_end.Statement.{statement}
+use Rattle.block.proofs.name_end.Tie as tie
+
+abbrev Inv-loop : tie.InvT-loop
+Inv-loop s at i₀ i = Reaches name s at i
+
+abbrev μ-loop : tie.MeasureT-loop
+μ-loop s at i₀ i = length s - i
+
+loop-holds : tie.Need-loop-holds Inv-loop μ-loop
+loop-holds c = reaches-start
+
+shared-slice-read-in-name : tie.Need-shared-slice-read-in-name Inv-loop μ-loop
+shared-slice-read-in-name c = search needs
+
+in-name-requires : tie.Need-in-name-requires Inv-loop μ-loop
+in-name-requires c κs = search needs
+
+add-i : tie.Need-add-i Inv-loop μ-loop
+add-i c = omega arith
+
+loop-less : tie.Need-loop-less Inv-loop μ-loop
+loop-less c = omega arith
+
+loop-again : tie.Need-loop-again Inv-loop μ-loop
+loop-again c = search run-on
+
+returns : tie.Need-returns Inv-loop μ-loop
+returns c = search run-off
+
+returns-2 : tie.Need-returns-2 Inv-loop μ-loop
+returns-2 c = search run-out
+
+pub name-end-spec : {M : Type 1} → statement M
+name-end-spec =
+    tie.close
+    (tie.spec
+    Inv-loop
+    μ-loop
+    loop-holds
+    shared-slice-read-in-name
+    in-name-requires
+    add-i
+    loop-less
+    loop-again
+    returns
+    returns-2)

@@ -1,0 +1,7 @@
+pub mod Headlines
+pub mod Examples
+pub mod Bounds
+pub mod Inserting
+pub mod Copying
+pub mod Reading
+pub mod Answering

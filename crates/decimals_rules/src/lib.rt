@@ -1,0 +1,1 @@
+// Numbers in decimal digits: definitions and laws. There is no code here.

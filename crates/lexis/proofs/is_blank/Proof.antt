@@ -1,0 +1,13 @@
+-- `lexis::is_blank` meets its contract: each test is one of the definition. Assumes nothing.
+use Rattle.lexis_rules.proofs.Bytes.{blank-space, blank-tab}
+use Rattle.lexis.proofs.is_blank.Statement.{statement}
+use Rattle.lexis.proofs.is_blank.Tie as tie
+
+returns : tie.Need-returns
+returns c = search blank-space
+
+returns-2 : tie.Need-returns-2
+returns-2 c = search blank-tab
+
+pub is-blank-spec : {M : Type 1} → statement M
+is-blank-spec = tie.close (tie.spec returns returns-2)

@@ -1,0 +1,10 @@
+-- `lexis::is_stop` meets its contract: a byte that no test stops stands in a run of plain bytes. Assumes nothing.
+use Rattle.lexis_rules.proofs.Bytes.{comment-unstopped}
+use Rattle.lexis.proofs.is_stop.Statement.{statement}
+use Rattle.lexis.proofs.is_stop.Tie as tie
+
+returns : tie.Need-returns
+returns c = search comment-unstopped
+
+pub is-stop-spec : {M : Type 1} → statement M
+is-stop-spec = tie.close (tie.spec returns)

@@ -1,0 +1,91 @@
+// What the command is asked for by its words (`words.rt`), and the one line on standard error with which it ends.
+//
+// `put_ending` writes the line
+//   orbendash: NUMBER: meaning, at PLACE
+// for a refusal with a number of 01 or 02, the same without a place for the command's own numbers, and
+//   orbendash: 0: done
+// where all of the output has been written. It is handed a buffer and a place in it, any place, stores as much of the line as there is room
+// for from there on, changes no other byte, and returns the place after the whole line, at most the largest place, which no buffer reaches.
+use messages_rules::Ending;
+ghost use Rattle.sequences.specs.Stored.{Clipped};
+ghost use Rattle.messages_rules.specs.Messages.{opening, closing, refusalLine, linesRefusal, endingLine};
+
+pub mod words;
+
+// The front of the line of a refusal.
+fn put_opening(number: u8, out: &mut [u8], to: usize) -> usize
+    ensures { λ r. ⌜ Clipped (now (out .entry)) to (opening number) (now (out .exit)) r ⌝ }
+{
+    let name = texts::put_part(b"orbendash: ", out, to);
+    let digits = decimals::put_decimal(number as u64, out, name);
+    texts::put_part(b": ", out, digits)
+}
+
+// Its end: the place, and LF.
+fn put_closing(place: usize, out: &mut [u8], to: usize) -> usize
+    ensures { λ r. ⌜ Clipped (now (out .entry)) to (closing place) (now (out .exit)) r ⌝ }
+{
+    let digits = decimals::put_decimal(place as u64, out, to);
+    texts::put_byte(b'\n', out, digits)
+}
+
+// The line of a refusal of a block or our own list.
+fn put_refusal(number: u8, place: usize, list: &[u8], out: &mut [u8], to: usize) -> usize
+    ensures { λ r. ⌜ Clipped (now (out .entry)) to (refusalLine number place (now (list .entry))) (now (out .exit)) r ⌝ }
+{
+    let opened = put_opening(number, out, to);
+    let said = meanings::put_meaning(number, place, list, out, opened);
+    let at = texts::put_part(b", at ", out, said);
+    put_closing(place, out, at)
+}
+
+// The line of a refusal of report lines.
+fn put_lines_refusal(number: u8, place: usize, out: &mut [u8], to: usize) -> usize
+    ensures { λ r. ⌜ Clipped (now (out .entry)) to (linesRefusal number place) (now (out .exit)) r ⌝ }
+{
+    let opened = put_opening(number, out, to);
+    let said = meanings::put_lines_meaning(number, out, opened);
+    put_closing(place, out, said)
+}
+
+// The line of an ending; `list` is our own list, which a refusal by 5 speaks of.
+pub fn put_ending(ending: Ending, list: &[u8], out: &mut [u8], to: usize) -> usize
+    ensures { λ r. ⌜ Clipped (now (out .entry)) to (endingLine ending (now (list .entry))) (now (out .exit)) r ⌝ }
+{
+    match ending {
+        Ending::Done => texts::put_part(b"orbendash: 0: done\n", out, to),
+        Ending::Usage => texts::put_part(
+            b"orbendash: 64: usage: orbendash strip LIST < BLOCK, orbendash report LIST < BLOCK, orbendash write < LINES or orbendash --help\n",
+            out,
+            to,
+        ),
+        Ending::ListClosed => texts::put_part(
+            b"orbendash: 66: the list can't be opened\n",
+            out,
+            to,
+        ),
+        Ending::ListUnread => texts::put_part(b"orbendash: 66: the list can't be read\n", out, to),
+        Ending::InputUnread => texts::put_part(
+            b"orbendash: 74: standard input can't be read\n",
+            out,
+            to,
+        ),
+        Ending::InputTooLong => texts::put_part(
+            b"orbendash: 74: standard input can't be read whole: it has more than 262,144 bytes\n",
+            out,
+            to,
+        ),
+        Ending::OutputTooLong => texts::put_part(
+            b"orbendash: 70: the output is too long\n",
+            out,
+            to,
+        ),
+        Ending::Unwritten => texts::put_part(
+            b"orbendash: 74: standard output can't be written\n",
+            out,
+            to,
+        ),
+        Ending::Refused { number, place } => put_refusal(number, place, list, out, to),
+        Ending::LinesRefused { number, place } => put_lines_refusal(number, place, out, to),
+    }
+}

@@ -1,0 +1,4 @@
+pub mod Headlines
+pub mod Lines
+pub mod Feeds
+pub mod Examples

@@ -1,0 +1,4 @@
+pub mod Rooms
+pub mod Bodies
+pub mod Passes
+pub mod Ends

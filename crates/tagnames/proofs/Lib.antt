@@ -1,0 +1,4 @@
+pub mod Ordering
+pub mod Fronts
+pub mod Needed
+pub mod Buckets

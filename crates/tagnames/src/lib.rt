@@ -1,0 +1,168 @@
+// Names of tags, each by the place of its first byte in a body: how they stand to a name, and whether they are those that a signature or a
+// seal needs.
+//
+//   compare(s, at, name)         how the name at a place stands to another in the order of their bytes
+//   is_named(s, at, name)        whether it is this name
+//   bucket(name)                 a number below 32,768 that is made of the bytes of a name
+//   is_signature(s, places)      whether the names at these places are those that a signature needs
+//   is_seal(s, places, cv)       the same for a seal, with the chain value of its cv
+ghost use mathlib.Core.Path.{_≡_};
+ghost use Prim.Native.Nat.{_<_};
+ghost use lib.ListN.{drop};
+ghost use Rattle.reading.specs.Texts.{starts};
+ghost use Rattle.arc_rules.specs.Tags.{inTagName};
+ghost use Rattle.arc_rules.specs.Sets.{signatureTags, sealTags};
+ghost use Rattle.tagnames.specs.Names.{comparedAt, sameAt, heldAt, allAt, sealAt, bucketOf};
+
+// How one name stands to another in the order of their bytes.
+pub enum Order {
+    Before,
+    Same,
+    After,
+}
+
+// Whether the byte at a place is one of a name.
+fn in_name(s: &[u8], at: usize) -> bool
+    ensures { λ r. ⌜ r ≡ starts inTagName (drop at (now (s .entry))) ⌝ }
+{
+    if at >= s.len() {
+        return false;
+    }
+    tags::name_end(&s[..at + 1], at) > at
+}
+
+// How the name at a place stands to another. Where they differ, and behind the other, the byte at hand tells whether the name goes on.
+pub fn compare(s: &[u8], at: usize, name: &[u8]) -> Order
+    ensures { λ r. ⌜ r ≡ comparedAt (drop at (now (s .entry))) (now (name .entry)) ⌝ }
+{
+    let mut i = at;
+    let mut j: usize = 0;
+    loop {
+        if j >= name.len() {
+            return if in_name(s, i) {
+                Order::After
+            } else {
+                Order::Same
+            };
+        }
+        if i >= s.len() {
+            return Order::Before;
+        }
+        if s[i] < name[j] {
+            return Order::Before;
+        }
+        if s[i] > name[j] {
+            return if in_name(s, i) {
+                Order::After
+            } else {
+                Order::Before
+            };
+        }
+        i += 1;
+        j += 1;
+    }
+}
+
+// Whether the name at a place is this one.
+pub fn is_named(s: &[u8], at: usize, name: &[u8]) -> bool
+    ensures { λ r. ⌜ r ≡ sameAt (now (s .entry)) at (now (name .entry)) ⌝ }
+{
+    match compare(s, at, name) {
+        Order::Before => false,
+        Order::Same => true,
+        Order::After => false,
+    }
+}
+
+fn wide(x: u16) -> usize
+    ensures { λ r. ⌜ r ≡ x ⌝ }
+{
+    x as usize
+}
+
+// Whether a name stands at one of these places.
+fn has(s: &[u8], places: &[u16], name: &[u8]) -> bool
+    ensures { λ r. ⌜ r ≡ heldAt (now (s .entry)) (now (places .entry)) (now (name .entry)) ⌝ }
+{
+    let mut k: usize = 0;
+    while k < places.len() {
+        if is_named(s, wide(places[k]), name) {
+            return true;
+        }
+        k += 1;
+    }
+    false
+}
+
+// Whether the names at these places are those that a signature needs.
+pub fn is_signature(s: &[u8], places: &[u16]) -> bool
+    ensures { λ r. ⌜ r ≡ allAt (now (s .entry)) (now (places .entry)) signatureTags ⌝ }
+{
+    if !has(s, places, b"a") {
+        return false;
+    }
+    if !has(s, places, b"b") {
+        return false;
+    }
+    if !has(s, places, b"bh") {
+        return false;
+    }
+    if !has(s, places, b"d") {
+        return false;
+    }
+    if !has(s, places, b"h") {
+        return false;
+    }
+    has(s, places, b"s")
+}
+
+// Whether the names at these places are those that a seal needs, h aside.
+fn has_seal_tags(s: &[u8], places: &[u16]) -> bool
+    ensures { λ r. ⌜ r ≡ allAt (now (s .entry)) (now (places .entry)) sealTags ⌝ }
+{
+    if !has(s, places, b"a") {
+        return false;
+    }
+    if !has(s, places, b"b") {
+        return false;
+    }
+    if !has(s, places, b"d") {
+        return false;
+    }
+    if !has(s, places, b"s") {
+        return false;
+    }
+    has(s, places, b"cv")
+}
+
+// Whether the names at these places are those that a seal needs and not h, and the chain value is one.
+pub fn is_seal(s: &[u8], places: &[u16], cv: u8) -> bool
+    ensures { λ r. ⌜ r ≡ sealAt (now (s .entry)) (now (places .entry)) cv ⌝ }
+{
+    if cv == 0 {
+        return false;
+    }
+    if has(s, places, b"h") {
+        return false;
+    }
+    has_seal_tags(s, places)
+}
+
+fn number(b: u8) -> usize
+    ensures { λ r. ⌜ (r ≡ b) × (r < 256) ⌝ }
+{
+    b as usize
+}
+
+// A number below 32,768 that is made of the bytes of a name, so that few names of a list have the same.
+pub fn bucket(name: &[u8]) -> usize
+    ensures { λ r. ⌜ r ≡ bucketOf (now (name .entry)) ⌝ }
+{
+    let mut h: usize = 0;
+    let mut j: usize = 0;
+    while j < name.len() {
+        h = (h + number(name[j])) * 10368889 % 16777216;
+        j += 1;
+    }
+    h / 512
+}

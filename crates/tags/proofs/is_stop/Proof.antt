@@ -1,0 +1,10 @@
+-- `tags::is_stop` meets its contract: a byte that no test stops stands in a run of plain bytes. Assumes nothing.
+use Rattle.lexis_rules.proofs.Bytes.{tag-unstopped}
+use Rattle.tags.proofs.is_stop.Statement.{statement}
+use Rattle.tags.proofs.is_stop.Tie as tie
+
+returns : tie.Need-returns
+returns c = search tag-unstopped
+
+pub is-stop-spec : {M : Type 1} → statement M
+is-stop-spec = tie.close (tie.spec returns)
