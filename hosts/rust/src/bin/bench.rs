@@ -693,7 +693,7 @@ fn judge_rows(mail: &[u8]) {
         let names = || (b'A'..=b'Z').chain([b'x', b'y']).map(char::from);
         let start = |n| {
             let more: String = names().map(|name| format!("{name}=;")).collect();
-            format!("ARC-Seal:i={};a=;b=;d=;s=;{more}cv=pass", n % 50 + 1)
+            format!("ARC-Seal:i={};a=;b=;d=;s=;{more}cv=pass     ", n % 50 + 1)
         };
         judge(seals(size, start))
     });
