@@ -21,8 +21,9 @@ use Rattle.taglist.specs.declared.Listed.the-variants as listed
 use Rattle.arc_rules.specs.Tags.{Tag, tags, valueNamed}
 use Rattle.arc_rules.specs.Sets.{instance, chainValue, Said, isSignature, isSeal, says}
 use Rattle.instances.specs.Answers.{startGot}
-use Rattle.taglist.specs.Lists.{listTest, listSaid, listedAt, listedSaid}
-use Rattle.taglist.proofs.TagLists.{list-within}
+use Rattle.tagtests.specs.Lists.{listTest, listSaid, listedAt}
+use Rattle.tagtests.proofs.TagLists.{list-within}
+use Rattle.taglist.specs.Lists.{listedSaid}
 use Rattle.arc.specs.Internal.{fieldOf, fieldSaid, saidOf}
 
 -- ==== what a field says

@@ -1,6 +1,6 @@
 -- Names linked by buckets: the walk along the links of a bucket passes by names of other buckets only, so that a name is found where it is held; and the
 -- loop that collects the tags of a list so. Assumes nothing.
-use Prim.Native.Nat.{ℕ, zero, suc, _+_, _-_, _≤_, _<_, zero-le}
+use Prim.Native.Nat.{ℕ, zero, suc, _+_, _-_, _%_, _≤_, _<_, zero-le}
 use native.Mathlib.Nat.{eq-or-lt-of-le, le-of-suc-le-suc, not-suc-le-zero}
 use native.Mathlib.Numerals.{add-one}
 use native.Mathlib.Omega.{arith}
@@ -16,7 +16,7 @@ use Rattle.sequences.proofs.Booleans.{or-none, both}
 use Rattle.reading.specs.Texts.{bytes, same}
 use Rattle.reading.specs.Places.{endAt}
 use Rattle.tags.specs.declared.Tag.the-variants as tagged
-use Rattle.taglist.specs.declared.Collected.{Collected}
+use Rattle.tagtests.specs.declared.Collected.{Collected}
 use Rattle.taglist.specs.declared.linked.Sought.{Sought}
 use Rattle.taglist.specs.declared.linked.Sought.the-variants as sought
 use Rattle.lexis_rules.specs.Limits.{byteLimit}
@@ -27,8 +27,11 @@ use Rattle.tagnames.specs.Names.{nameAt, Named, sameAt, holds, bucketOf}
 use Rattle.tagnames.proofs.Ordering.{same-is}
 use Rattle.tagnames.proofs.Needed.{same-named}
 use Rattle.tagnames.proofs.Buckets.{bucket-small}
-use Rattle.taglist.specs.Internal.{kept, bucketAt, Ends, Last, Links, Linked, SoughtAs, isHeld, cvAfter, endedAt, tagsAt, CollectedIf}
-use Rattle.taglist.proofs.TagsRead.{ReadSoFar, found-name, found-named, read-none, read-twice, read-on, read-end}
+use Rattle.tagtests.specs.Lists.{tagsAt}
+use Rattle.tagtests.specs.Tests.{kept, isHeld, cvAfter, endedAt, CollectedIf}
+use Rattle.taglist.specs.Internal.{bucketAt, Ends, Last, Links, Linked, SoughtAs}
+use Rattle.tagtests.proofs.TagLists.{is-i}
+use Rattle.tagtests.proofs.TagsRead.{ReadSoFar, found-name, found-named, read-none, read-twice, read-on, read-end}
 
 -- ==== one entry more
 
@@ -135,6 +138,15 @@ module _ (s t next : List ℕ) (last : ℕ) (n : List ℕ) where
       pub seeking-less : r ≡ false → (d : ℕ) → d ≡ getD next (c - 1) 0 → d < c
       seeking-less z d v = omega (arith, w .links .before (c - 1) (omega arith) .within)
 
+-- ==== i is taken
+
+module _ (n : List ℕ) (g : Named n) (r : Bool) (e : r ≡ sameAt n 0 (bytes "i")) where
+  pub sought-i : (ks : List (List ℕ)) → r ≡ true → isHeld ks n ≡ true
+  sought-i ks q = let t : same n (bytes "i") ≡ true = sym (is-i n g r e) ∙ q in rw t
+
+  pub sought-not-i : (ks : List (List ℕ)) (x : Sought) → r ≡ false → SoughtAs (holds ks n) x → SoughtAs (isHeld ks n) x
+  sought-not-i ks x q f = let t : same n (bytes "i") ≡ false = sym (is-i n g r e) ∙ q in rw t f
+
 -- ==== an entry that is put in
 
 module _ (s t next heads : List ℕ) (n : ℕ) (w : Linked s t next heads n) (p b : ℕ) (e : b ≡ bucketOf (nameAt s p)) (l : n < length t) (m : n < length next) where
@@ -199,6 +211,10 @@ module _ (s t next heads : List ℕ) (n : ℕ) (w : Linked s t next heads n) (p 
   linked-holds k =
       rw (add-one n, take-suc-set t n p l)
       (ap (λ (ks : List (List ℕ)). holds ks k) (map-last (nameAt s) (take n t) p) ∙ holds-last (kept s t n) (nameAt s p) k)
+
+-- a link behind fewer than 65,536 fits an entry
+pub entry-next : (n r : ℕ) → n + 1 < 65536 → r ≡ (n + 1) % 65536 → r ≡ n + 1
+entry-next n r h e = omega arith
 
 -- ==== the loop
 
@@ -266,11 +282,14 @@ module _ (s : List ℕ) (at : ℕ) (t₀ n₀ h₀ t next heads : List ℕ) (i c
         pub linking-twice : o ≡ sought.Taken → (sound (tagsAt s at) && leb (length s) (endAt tag s at)) ≡ false
         linking-twice r = read-twice s at (kept s t count) i count cv (c .read) a e v w x f (told true (rw r at u))
 
-        pub linking-on : o ≡ sought.Free → (y : ℕ) (t′ next′ heads′ : List ℕ) (cv′ : ℕ) → count < length next → y ≡ a → t′ ≡ set t count y
+        pub linking-on : o ≡ sought.Free → (y : ℕ) (t′ next′ heads′ : List ℕ) (cv′ : ℕ) → length s ≤ byteLimit → count < length next → y ≡ a % 65536 → t′ ≡ set t count y
             → next′ ≡ set next count (getD heads b 0) → heads′ ≡ set heads b (count + 1) → cv′ ≡ cvAfter cv (span s a e) (span s v w)
             → Linking s at t₀ n₀ h₀ t′ next′ heads′ x (count + 1) cv′
-        linking-on r y t′ next′ heads′ cv′ h j k l m g = rw (k, l, m, j) on
+        linking-on r y t′ next′ heads′ cv′ z h j k l m g = rw (k, l, m, j, entry) on
           where
+            entry : a % 65536 ≡ a
+            entry = omega (arith, f .stands)
+
             room : count < length t
             room = omega (arith, c .fits)
 

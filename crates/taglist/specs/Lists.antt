@@ -1,30 +1,8 @@
--- What the code's answer says: the tag list of a signature or a seal. Assumes nothing: these are definitions.
+-- What the code's answer tells of a tag list. Assumes nothing: these are definitions.
 use Prim.Native.Nat.{ℕ}
-use mathlib.Core.Bool.{Bool, true, false}
-use mathlib.Core.List.{List}
 use mathlib.Core.Option.{Option, none, some}
-use lib.Dec.{ltb}
-use lib.ListN.{length}
-use Rattle.reading.specs.Texts.{bytes}
-use Rattle.reading.specs.Parsers.{nothing, got}
-use Rattle.reading.specs.Places.{from}
-use Rattle.lexis_rules.specs.Limits.{byteLimit}
-use Rattle.arc_rules.specs.Tags.{Tag, tags, valueNamed}
-use Rattle.arc_rules.specs.Sets.{chainValue, isSignature, isSeal}
 use Rattle.taglist.specs.declared.Listed.{Listed}
 use Rattle.taglist.specs.declared.Listed.the-variants as listed
-
--- what a tag list says: a seal's chain value, 0 for a signature
-abbrev pub listTest : Bool → List Tag → Option ℕ
-listTest true ts = elim (isSeal ts) [ true ↦ some (chainValue (valueNamed (bytes "cv") ts)) | false ↦ none ]
-listTest false ts = elim (isSignature ts) [ true ↦ some 0 | false ↦ none ]
-
-unfoldable pub listSaid : Bool → List ℕ → ℕ → Option ℕ
-listSaid seal s at = elim (from tags s at) [ nothing ↦ none | got ts n ↦ listTest seal ts ]
-
--- the same, in a body within the limit; a longer one has no list that is read
-unfoldable pub listedAt : Bool → List ℕ → ℕ → Option ℕ
-listedAt seal s at = elim (ltb byteLimit (length s)) [ true ↦ none | false ↦ listSaid seal s at ]
 
 -- what an answer tells
 abbrev pub listedSaid : Listed → Option ℕ

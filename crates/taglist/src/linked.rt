@@ -3,13 +3,12 @@
 //
 // A name is kept as the place of its first byte in the body. Links count from 1, so that 0 is the end: `heads` has the last name of each
 // bucket, and `next` the one before each.
-use super::narrow;
-use super::seen;
 ghost use mathlib.Core.Path.{_≡_};
 ghost use Prim.Native.Nat.{_+_, _<_};
 ghost use lib.ListN.{length, getD, set};
 ghost use Rattle.tagnames.specs.Names.{Named, holds, bucketOf};
-ghost use Rattle.taglist.specs.Internal.{kept, Links, Ends, SoughtAs};
+ghost use Rattle.tagtests.specs.Tests.{kept};
+ghost use Rattle.taglist.specs.Internal.{Links, Ends, SoughtAs};
 
 // Whether a name is linked; unsure where too many of its bucket are.
 pub(crate) enum Sought {
@@ -30,10 +29,10 @@ pub(crate) fn seek(s: &[u8], table: &[u16], next: &[u16], last: usize, name: &[u
         if left == 0 {
             return Sought::Unsure;
         }
-        if tagnames::is_named(s, seen::wide(table[c - 1]), name) {
+        if tagnames::is_named(s, tagnames::wide(table[c - 1]), name) {
             return Sought::Taken;
         }
-        c = seen::wide(next[c - 1]);
+        c = tagnames::wide(next[c - 1]);
         left -= 1;
     }
     Sought::Free
@@ -55,5 +54,5 @@ pub(crate) fn link(
 {
     table[count] = place;
     next[count] = heads[bucket];
-    heads[bucket] = narrow(count + 1);
+    heads[bucket] = tagnames::narrow(count + 1);
 }

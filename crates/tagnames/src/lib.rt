@@ -3,11 +3,12 @@
 //
 //   compare(s, at, name)         how the name at a place stands to another in the order of their bytes
 //   is_named(s, at, name)        whether it is this name
+//   wide(x), narrow(x)           the place that an entry of a table of names stands for, and the entry for a place
 //   bucket(name)                 a number below 32,768 that is made of the bytes of a name
 //   is_signature(s, places)      whether the names at these places are those that a signature needs
 //   is_seal(s, places, cv)       the same for a seal, with the chain value of its cv
 ghost use mathlib.Core.Path.{_≡_};
-ghost use Prim.Native.Nat.{_<_};
+ghost use Prim.Native.Nat.{_%_, _<_};
 ghost use lib.ListN.{drop};
 ghost use Rattle.reading.specs.Texts.{starts};
 ghost use Rattle.arc_rules.specs.Tags.{inTagName};
@@ -74,10 +75,18 @@ pub fn is_named(s: &[u8], at: usize, name: &[u8]) -> bool
     }
 }
 
-fn wide(x: u16) -> usize
+// The place that an entry of a table of names stands for.
+pub fn wide(x: u16) -> usize
     ensures { λ r. ⌜ r ≡ x ⌝ }
 {
     x as usize
+}
+
+// The entry for a place: one below 65,536 as it is, and of any other what is left of it by 65,536.
+pub fn narrow(x: usize) -> u16
+    ensures { λ r. ⌜ r ≡ x % 65536 ⌝ }
+{
+    (x % 65536) as u16
 }
 
 // Whether a name stands at one of these places.

@@ -6,7 +6,7 @@ use borrow.Author.Needs.{needs}
 use lib.ListN.{length}
 use Rattle.tags.specs.declared.Tag.the-variants.{Read}
 use Rattle.tags.specs.Tags.{TagFound}
-use Rattle.taglist.proofs.TagsRead.{told-tag, found-named}
+use Rattle.tagtests.proofs.TagsRead.{told-tag, found-named}
 use Rattle.taglist.proofs.Linking.{Linking, linking-start, linking-bucket, linking-seeks, linking-twice, linking-on, linking-end}
 use Rattle.taglist.proofs.collect_linked.Statement.{statement}
 use Rattle.taglist.proofs.collect_linked.Tie as tie
@@ -111,7 +111,7 @@ returns-3 : tie.Need-returns-3 Inv-loop μ-loop
 returns-3 c = tt
 
 narrow-requires : tie.Need-narrow-requires Inv-loop μ-loop
-narrow-requires c κs = omega (arith, found (c .before .before .before .before .before .before .before .before .before .before .before .before .before .before) .stands, c .before .before .before .before .before .before .before .before .before .before .before .before .before .before .before .before .before .before .before .before .before .before .before .pre .0)
+narrow-requires c κs = search needs
 
 link-requires : tie.Need-link-requires Inv-loop μ-loop
 link-requires c κs =
@@ -138,7 +138,7 @@ part-cv-after-end-2 : tie.Need-part-cv-after-end-2 Inv-loop μ-loop
 part-cv-after-end-2 c = omega (arith, found (c .before .before .before .before .before .before .before .before .before .before .before .before .before .before .before .before .before .before .before .before .before .before .before) .stands)
 
 cv-after-requires : tie.Need-cv-after-requires Inv-loop μ-loop
-cv-after-requires c κs = found-named _ _ _ _ _ _ _ (found (c .before .before .before .before .before .before .before .before .before .before .before .before .before .before .before .before .before .before .before .before .before .before .before .before))
+cv-after-requires c κs = search needs
 
 add-count : tie.Need-add-count Inv-loop μ-loop
 add-count c = omega (arith, c .before .before .before .before .before .before .before .before .before .before .before .before .before .before .if1 .left, c .before .before .before .before .before .before .before .before .before .before .before .before .before .before .before .before .before .before .before .before .before .before .before .before .before .before .before .before .before .loop .inv .narrow)
@@ -149,6 +149,7 @@ loop-less c = omega (arith, found (c .before .before .before .before .before .be
 loop-again : tie.Need-loop-again Inv-loop μ-loop
 loop-again c =
     linking-on _ _ _ _ _ _ _ _ _ _ _ (c .before .before .before .before .before .before .before .before .before .before .before .before .before .before .before .before .before .before .before .before .before .before .before .before .before .before .before .before .before .loop .inv) _ _ _ _ _ (found (c .before .before .before .before .before .before .before .before .before .before .before .before .before .before .before .before .before .before .before .before .before .before .before .before .before)) _ (c .before .before .before .before .before .before .before .before .before .before .before .before .before .before .before .before .before .before .before .before .before .before .before .bucket .ensures) _ (c .before .before .before .before .before .before .before .before .before .before .before .before .before .before .before .before .before .before .before .wide .ensures) _ (c .before .before .before .before .before .before .before .before .before .before .before .before .before .before .before .before .before .sought .ensures) (c .before .before .before .before .before .before .before .before .before .before .before .before .before .before .before .enum-told3 .given .1) _ _ _ _ _
+    (c .before .before .before .before .before .before .before .before .before .before .before .before .before .before .before .before .before .before .before .before .before .before .before .before .before .before .before .before .before .before .before .before .before .before .pre .0)
     (c .before .before .before .before .before .before .before .before .before .before .before .before .before .before .if1 .left)
     (c .before .before .before .before .before .before .before .before .before .before .narrow .ensures)
     (c .before .before .before .before .before .before .before .before .before .link .ensures .0)

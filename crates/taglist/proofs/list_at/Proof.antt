@@ -1,6 +1,6 @@
 -- `taglist::list_at` meets its contract: a body that is too long has no list that is read. Assumes nothing.
 use borrow.Author.Needs.{needs}
-use Rattle.taglist.proofs.TagLists.{list-long, list-fits, list-short}
+use Rattle.tagtests.proofs.TagLists.{list-long, list-fits}
 use Rattle.taglist.proofs.list_at.Statement.{statement}
 use Rattle.taglist.proofs.list_at.Tie as tie
 
@@ -14,7 +14,7 @@ list-within-requires : tie.Need-list-within-requires
 list-within-requires c κs = search list-fits
 
 returns-2 : tie.Need-returns-2
-returns-2 c = search list-short
+returns-2 c = search needs
 
 pub list-at-spec : {M : Type 1} → statement M
 list-at-spec = tie.close (tie.spec too-long-requires returns list-within-requires returns-2)

@@ -1,6 +1,6 @@
 -- `taglist::list_of_many` meets its contract: where the linked table can't tell, the one in order is never full. Assumes nothing.
 use mathlib.Core.Path.{sym}
-use Rattle.taglist.proofs.TagLists.{many-room, attempt-read, attempt-unreadable, many-said}
+use Rattle.taglist.proofs.Answers.{many-room, attempt-read, attempt-unreadable, many-said}
 use borrow.Author.Needs.{needs}
 use Rattle.taglist.proofs.list_of_many.Statement.{statement}
 use Rattle.taglist.proofs.list_of_many.Tie as tie
@@ -42,7 +42,7 @@ returns-2 : tie.Need-returns-2
 returns-2 c = search attempt-unreadable
 
 returns-3 : tie.Need-returns-3
-returns-3 c = many-said _ _ _ _ (c .before .before .try-list .result) (c .before .before .try-list .ensures) (sym (slice-aggregate-try-list (c .before .before .before))) (c .before .before .before .before .before .before .before .before .before .before .before .before .before .before .pre) _ (c .listed-as .ensures)
+returns-3 c = many-said _ _ _ _ (c .before .before .try-list .result) (c .before .before .try-list .ensures .0) (sym (slice-aggregate-try-list (c .before .before .before))) (c .before .before .before .before .before .before .before .before .before .before .before .before .before .before .pre) _ (c .listed-as .ensures)
 
 pub list-of-many-spec : {M : Type 1} → statement M
 list-of-many-spec =

@@ -1,5 +1,5 @@
 -- `taglist::list_within` meets its contract: a small table serves unless it is full. Assumes nothing.
-use Rattle.taglist.proofs.TagLists.{attempt-read, attempt-unreadable}
+use Rattle.taglist.proofs.Answers.{attempt-read, attempt-unreadable}
 use borrow.Author.Needs.{needs}
 use Rattle.taglist.proofs.list_within.Statement.{statement}
 use Rattle.taglist.proofs.list_within.Tie as tie

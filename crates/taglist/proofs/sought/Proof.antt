@@ -1,6 +1,6 @@
 -- `taglist::sought` meets its contract: i is taken, and any other name is looked for. Assumes nothing.
-use Rattle.taglist.specs.Internal.{kept}
-use Rattle.taglist.proofs.Slots.{sought-i, sought-not-i}
+use Rattle.tagtests.specs.Tests.{kept}
+use Rattle.taglist.proofs.Linking.{sought-i, sought-not-i}
 use borrow.Author.Needs.{needs}
 use Rattle.taglist.proofs.sought.Statement.{statement}
 use Rattle.taglist.proofs.sought.Tie as tie

@@ -1,5 +1,5 @@
 -- `taglist::try_linked` meets its contract: the tests of what was collected. Assumes nothing.
-use Rattle.taglist.proofs.TagLists.{collected-fits, collected-told, collected-unsound}
+use Rattle.tagtests.proofs.TagLists.{in-use-long, collected-fits, collected-told, collected-unsound}
 use borrow.Author.Needs.{needs}
 use Rattle.taglist.proofs.try_linked.Statement.{statement}
 use Rattle.taglist.proofs.try_linked.Tie as tie
@@ -10,8 +10,14 @@ collect-linked-requires c κs = search needs
 enum-known-count : tie.Need-enum-known-count
 enum-known-count c = search needs
 
+slice-reshare-prefix-told : tie.Need-slice-reshare-prefix-told
+slice-reshare-prefix-told c = collected-fits _ _ _ _ _ (c .before .before .before .before .before .before .before .before .before .collect-linked .ensures) _ _ (c .before .count .given .1)
+
+slice-aggregate-told : tie.Need-slice-aggregate-told
+slice-aggregate-told c = in-use-long _ _ (collected-fits _ _ _ _ _ (c .before .before .before .before .before .before .before .before .before .before .collect-linked .ensures) _ _ (c .before .before .count .given .1))
+
 told-requires : tie.Need-told-requires
-told-requires c κs = collected-fits _ _ _ _ _ (c .before .before .before .before .before .before .before .before .before .before .collect-linked .ensures) _ _ (c .before .before .count .given .1)
+told-requires c κs = search needs
 
 enum-told : tie.Need-enum-told
 enum-told c = search needs
@@ -29,7 +35,7 @@ same-length-3 : tie.Need-same-length-3
 same-length-3 c = search needs
 
 returns : tie.Need-returns
-returns c = collected-told _ _ _ _ _ (c .before .before .before .before .before .before .before .before .before .before .before .collect-linked .ensures) _ _ (c .before .before .before .count .given .1) _ _ (c .told .ensures)
+returns c = collected-told _ _ _ _ _ (c .before .before .before .before .before .before .before .before .before .before .before .collect-linked .ensures) _ _ (c .before .before .before .count .given .1) _ _ (c .before .before .before .before .before .before .before .before .before .before .before .before .before .before .before .before .before .before .before .pre .0) (c .told .ensures)
 
 same-length-4 : tie.Need-same-length-4
 same-length-4 c = search needs
@@ -41,7 +47,7 @@ same-length-6 : tie.Need-same-length-6
 same-length-6 c = search needs
 
 returns-2 : tie.Need-returns-2
-returns-2 c = collected-unsound _ _ _ _ _ (c .before .before .before .before .before .before .before .before .collect-linked .ensures) (c .enum-told .given .1) _
+returns-2 c = collected-unsound _ _ _ _ _ (c .before .before .before .before .before .before .before .before .collect-linked .ensures) (c .enum-told .given .1) _ (c .before .before .before .before .before .before .before .before .before .before .before .before .before .before .before .before .pre .0)
 
 same-length-7 : tie.Need-same-length-7
 same-length-7 c = search needs
@@ -61,6 +67,8 @@ try-linked-spec =
     (tie.spec
     collect-linked-requires
     enum-known-count
+    slice-reshare-prefix-told
+    slice-aggregate-told
     told-requires
     enum-told
     enum-told-2

@@ -2,6 +2,7 @@
 use mathlib.Core.Path.{refl, ap}
 use lib.ListN.{set}
 use borrow.Author.Needs.{needs}
+use Rattle.taglist.proofs.Linking.{entry-next}
 use Rattle.taglist.proofs.linked.link.Statement.{statement}
 use Rattle.taglist.proofs.linked.link.Tie as tie
 
@@ -45,7 +46,7 @@ same-length-3 : tie.Need-same-length-3
 same-length-3 c = search needs
 
 returns : tie.Need-returns
-returns c = (refl, (refl, ap (set (c .before .before .before .before .before .args .heads .now) (c .before .before .before .before .before .args .bucket)) (c .narrow .ensures)))
+returns c = (refl, (refl, ap (set (c .before .before .before .before .before .args .heads .now) (c .before .before .before .before .before .args .bucket)) (entry-next _ _ (c .before .before .before .before .before .pre .3) (c .narrow .ensures))))
 
 pub link-spec : {M : Type 1} → statement M
 link-spec =

@@ -1,0 +1,4 @@
+pub mod Slots
+pub mod Halving
+pub mod Collecting
+pub mod Clearing
