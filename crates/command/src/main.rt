@@ -4,15 +4,13 @@
 //
 // Each is reading, one call (`strip::strip`, `reports::reports`, `writing::write`) and writing what it gave. A body is written as it is, with no
 // name before it and no CRLF after it. A refusal writes nothing to standard output. One line on standard error says how
-// it ended (`endings.rt`): with the numbers of 01 and 02, or 64 for wrong usage, 66 for a list that can't be opened or read, 70 for a failure
+// it ended (`endings`): with the numbers of 01 and 02, or 64 for wrong usage, 66 for a list that can't be opened or read, 70 for a failure
 // of the program, 74 for an input that can't be read, or not whole, or an output that can't be written; 0 only where all of the output has been
 // written.
 use libc::STDIN_FILENO;
 use messages_rules::Asked;
 use messages_rules::Ending;
-
-mod endings;
-mod transfer;
+use transfer::Opened;
 
 // Strips a block and writes what is kept.
 fn strip_block(block: &[u8], list: &[u8]) {
@@ -22,7 +20,7 @@ fn strip_block(block: &[u8], list: &[u8]) {
         number: r.number,
         place: r.place,
     };
-    endings::finish(r.number, refusal, &out, r.kept, list);
+    endings::end(endings::outcome(r.number, refusal, &out, r.kept), list);
 }
 
 // Reports a block.
@@ -33,7 +31,7 @@ fn report_block(block: &[u8], list: &[u8]) {
         number: r.number,
         place: r.place,
     };
-    endings::finish(r.number, refusal, &out, r.written, list);
+    endings::end(endings::outcome(r.number, refusal, &out, r.written), list);
 }
 
 // Reads the list and the block, and does what is asked.
@@ -41,12 +39,14 @@ fn run(list_file: i32, strips: bool) {
     let mut list = buffers::list();
     let entries = transfer::read_whole(list_file, &mut list);
     if !entries.whole {
-        return endings::end(Ending::ListUnread, &list[..0]);
+        endings::end(Ending::ListUnread, &list[..0]);
+        return;
     }
     let mut block = buffers::block();
     let fields = transfer::read_whole(STDIN_FILENO, &mut block);
     if !fields.whole {
-        return endings::end(Ending::InputUnread, &list[..0]);
+        endings::end(Ending::InputUnread, &list[..0]);
+        return;
     }
     let m = entries.length;
     let n = fields.length;
@@ -60,12 +60,15 @@ fn run(list_file: i32, strips: bool) {
 fn with_list(strips: bool) {
     let mut path = io::buffer();
     let n = os::arg(2, &mut path);
-    let file = transfer::open(&path[..n]);
-    if file < 0 {
-        return endings::end(Ending::ListClosed, b"");
+    match transfer::open(&path[..n]) {
+        Opened::File(file) => {
+            run(file, strips);
+            libc::close(file);
+        }
+        Opened::Closed => {
+            endings::end(Ending::ListClosed, b"");
+        }
     }
-    run(file, strips);
-    libc::close(file);
 }
 
 // Writes the body that has these lines as its report.
@@ -76,7 +79,7 @@ fn write_body(lines: &[u8]) {
         number: r.number,
         place: r.place,
     };
-    endings::finish(r.number, refusal, &out, r.written, b"");
+    endings::end(endings::outcome(r.number, refusal, &out, r.written), b"");
 }
 
 // Reads report lines, and writes their body where there are no more of them than were read.
@@ -84,11 +87,13 @@ fn with_lines() {
     let mut lines = buffers::lines();
     let input = transfer::read_whole(STDIN_FILENO, &mut lines);
     if !input.whole {
-        return endings::end(Ending::InputUnread, b"");
+        endings::end(Ending::InputUnread, b"");
+        return;
     }
     let n = input.length;
     if n >= buffers::LINES {
-        return endings::end(Ending::InputTooLong, b"");
+        endings::end(Ending::InputTooLong, b"");
+        return;
     }
     write_body(&lines[..n]);
 }
@@ -101,6 +106,8 @@ fn main() {
         Asked::Strip => with_list(true),
         Asked::Report => with_list(false),
         Asked::Write => with_lines(),
-        Asked::Nothing => endings::end(Ending::Usage, b""),
+        Asked::Nothing => {
+            endings::end(Ending::Usage, b"");
+        }
     }
 }

@@ -2,9 +2,10 @@
 use native.Mathlib.Omega.{arith}
 use mathlib.Core.Path.{sym}
 use lib.Seq.{length-take-le}
+use Rattle.endings.proofs.Cases.{line-long}
 use borrow.Author.Needs.{needs}
-use Rattle.command.proofs.endings.end.Statement.{statement}
-use Rattle.command.proofs.endings.end.Tie as tie
+use Rattle.endings.proofs.end.Statement.{statement}
+use Rattle.endings.proofs.end.Tie as tie
 
 slice-aggregate-put-ending : tie.Need-slice-aggregate-put-ending
 slice-aggregate-put-ending c = search needs
@@ -22,10 +23,10 @@ write-whole-requires : tie.Need-write-whole-requires
 write-whole-requires c κs = search needs
 
 returns : tie.Need-returns
-returns c = search needs
+returns c = line-long _ _ (c .before .before .before .before .put-ending .ensures .place)
 
 returns-2 : tie.Need-returns-2
-returns-2 c = search needs
+returns-2 c = line-long _ _ (c .before .before .put-ending .ensures .place)
 
 pub end-spec : {M : Type 1} → statement M
 end-spec =

@@ -1,12 +1,13 @@
 -- The bytes read so far fit the buffer, and each turn leaves a call less. Assumes nothing.
 use Prim.Native.Nat.{_≤_, _-_}
 use native.Mathlib.Omega.{arith}
-use mathlib.Core.Path.{_≡_, sym}
+use mathlib.Core.Path.{_≡_, refl, sym}
 use lib.ListN.{length}
 use lib.Seq.{length-take-le}
+use Rattle.sequences.proofs.Booleans.{no-true}
 use borrow.Author.Needs.{needs}
-use Rattle.command.proofs.transfer.read_whole.Statement.{statement}
-use Rattle.command.proofs.transfer.read_whole.Tie as tie
+use Rattle.transfer.proofs.read_whole.Statement.{statement}
+use Rattle.transfer.proofs.read_whole.Tie as tie
 
 abbrev Inv-loop : tie.InvT-loop
 Inv-loop file buf₀ done₀ calls₀ buf done calls = (done ≤ length buf) × (length buf ≡ length buf₀)
@@ -24,7 +25,7 @@ same-length : tie.Need-same-length Inv-loop μ-loop
 same-length c = omega arith
 
 returns : tie.Need-returns Inv-loop μ-loop
-returns c = (omega arith, sym (length-take-le _ _ (omega arith)))
+returns c = ((omega arith, sym (length-take-le _ _ (omega arith))), λ e. absurd (no-true (sym e)))
 
 sub-read : tie.Need-sub-read Inv-loop μ-loop
 sub-read c = omega arith
@@ -42,7 +43,7 @@ same-length-2 : tie.Need-same-length-2 Inv-loop μ-loop
 same-length-2 c = omega arith
 
 returns-2 : tie.Need-returns-2 Inv-loop μ-loop
-returns-2 c = (omega arith, sym (length-take-le _ _ (omega arith)))
+returns-2 c = ((omega arith, sym (length-take-le _ _ (omega arith))), λ e. absurd (no-true (sym e)))
 
 errno-requires : tie.Need-errno-requires Inv-loop μ-loop
 errno-requires c κs = search needs
@@ -51,7 +52,7 @@ same-length-3 : tie.Need-same-length-3 Inv-loop μ-loop
 same-length-3 c = omega arith
 
 returns-3 : tie.Need-returns-3 Inv-loop μ-loop
-returns-3 c = search needs
+returns-3 c = ((omega arith, refl), λ e. refl)
 
 sub-count : tie.Need-sub-count Inv-loop μ-loop
 sub-count c = omega arith
@@ -78,7 +79,7 @@ same-length-4 : tie.Need-same-length-4 Inv-loop μ-loop
 same-length-4 c = omega arith
 
 returns-4 : tie.Need-returns-4 Inv-loop μ-loop
-returns-4 c = search needs
+returns-4 c = ((omega arith, refl), λ e. refl)
 
 pub read-whole-spec : {M : Type 1} → statement M
 read-whole-spec =

@@ -1,25 +1,26 @@
--- The bytes written so far are a part of the text, and each turn leaves a call less. Assumes nothing.
+-- The bytes written so far are a part of the text, each turn leaves a call less, and a text of no bytes takes no turn. Assumes nothing.
 use Prim.Native.Nat.{_≤_, _-_}
 use native.Mathlib.Omega.{arith}
+use mathlib.Core.Path.{_≡_, refl}
 use lib.ListN.{length}
 use borrow.Author.Needs.{needs}
-use Rattle.command.proofs.transfer.write_whole.Statement.{statement}
-use Rattle.command.proofs.transfer.write_whole.Tie as tie
+use Rattle.transfer.proofs.write_whole.Statement.{statement}
+use Rattle.transfer.proofs.write_whole.Tie as tie
 
 abbrev Inv-loop : tie.InvT-loop
-Inv-loop file text done₀ calls₀ done calls = done ≤ length text
+Inv-loop file text done₀ calls₀ done calls = (done ≤ length text) × (length text ≡ 0 → calls ≡ 4000000000)
 
 abbrev μ-loop : tie.MeasureT-loop
 μ-loop file text done₀ calls₀ done calls = calls
 
 loop-holds : tie.Need-loop-holds Inv-loop μ-loop
-loop-holds c = omega arith
+loop-holds c = (omega arith, λ e. refl)
 
 sub-calls : tie.Need-sub-calls Inv-loop μ-loop
 sub-calls c = omega arith
 
 returns : tie.Need-returns Inv-loop μ-loop
-returns c = search needs
+returns c = λ e. refl
 
 sub-write : tie.Need-sub-write Inv-loop μ-loop
 sub-write c = omega arith
@@ -34,13 +35,13 @@ write-requires : tie.Need-write-requires Inv-loop μ-loop
 write-requires c κs = search needs
 
 returns-2 : tie.Need-returns-2 Inv-loop μ-loop
-returns-2 c = search needs
+returns-2 c = λ e. absurd (omega (arith, e))
 
 errno-requires : tie.Need-errno-requires Inv-loop μ-loop
 errno-requires c κs = search needs
 
 returns-3 : tie.Need-returns-3 Inv-loop μ-loop
-returns-3 c = search needs
+returns-3 c = λ e. absurd (omega (arith, e))
 
 sub-count : tie.Need-sub-count Inv-loop μ-loop
 sub-count c = omega arith
@@ -61,10 +62,10 @@ loop-less : tie.Need-loop-less Inv-loop μ-loop
 loop-less c = omega arith
 
 loop-again : tie.Need-loop-again Inv-loop μ-loop
-loop-again c = omega arith
+loop-again c = (omega arith, λ e. absurd (omega (arith, e)))
 
 returns-4 : tie.Need-returns-4 Inv-loop μ-loop
-returns-4 c = search needs
+returns-4 c = λ e. absurd (omega (arith, c .before .loop .inv .1 e))
 
 pub write-whole-spec : {M : Type 1} → statement M
 write-whole-spec =
