@@ -345,7 +345,7 @@ pub fn space_end(s: &[u8], at: usize) -> usize
 pub fn token_end(s: &[u8], at: usize) -> usize
     ensures { λ r. ⌜ r ≡ at + token (drop at (now (s .entry))) ⌝ }
 {
-    run_end(s, at, Class::Token)
+    runs::run_end(s, at, Class::Token)
 }
 
 // The end of a quoted string.
@@ -383,7 +383,7 @@ pub fn value_at(s: &[u8], at: usize) -> Value
 pub fn keyword_end(s: &[u8], at: usize) -> usize
     ensures { λ r. ⌜ r ≡ at + keyword (drop at (now (s .entry))) ⌝ }
 {
-    let e = run_end(s, at, Class::Keyword);
+    let e = runs::run_end(s, at, Class::Keyword);
     if e == at {
         return at;
     }

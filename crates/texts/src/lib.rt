@@ -195,10 +195,10 @@ fn plain_end(s: &[u8], at: usize) -> usize
     loop {
         let r = reading::rest(s.len(), i);
         if r < 16 {
-            return lexis::run_end(s, i, Class::Quoted);
+            return runs::run_end(s, i, Class::Quoted);
         }
         if has_stop(s, i, 16) {
-            return lexis::run_end(s, i, Class::Quoted);
+            return runs::run_end(s, i, Class::Quoted);
         }
         i += 16;
     }
