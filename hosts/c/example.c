@@ -2,8 +2,12 @@
  * Strips a header block, reports what is left, judges its ARC chain, and writes a field of our
  * own that says what became of it.
  *
- *   cc -o example example.c ../../target/staticlib/liborbendash.a
+ *   cc -o example example.c $(pkg-config --cflags --libs orbendash)
  *   ./example BLOCK IDENTIFIER...
+ *
+ * or, before the library is installed, from the repository's root,
+ *
+ *   cc -o example hosts/c/example.c target/staticlib/liborbendash.a
  *
  * BLOCK is a file with a header block: lines ended by CRLF, without the empty line after it.
  * The identifiers are our own, as mx.example.com; our field has the first. One with international
@@ -26,7 +30,7 @@ static uint8_t lines[3 * ORBENDASH_LIST_BYTES + 32];
 static uint8_t body[ORBENDASH_BYTES];
 
 static int refused(const char *call, unsigned number, size_t place) {
-    fprintf(stderr, "%s: answer %u at %zu\n", call, number, place);
+    fprintf(stderr, "%s: %u: %s, at %zu\n", call, number, orbendash_text(number), place);
     return (int)number;
 }
 
@@ -58,6 +62,10 @@ static int write_field(const char *identifier, const char *status) {
 }
 
 int main(int count, char **words) {
+    if (orbendash_version() != ORBENDASH_VERSION_NUMBER) {
+        fprintf(stderr, "the library is not of the header's version, %s\n", ORBENDASH_VERSION);
+        return 70;
+    }
     if (count < 2) {
         fprintf(stderr, "usage: %s BLOCK IDENTIFIER...\n", words[0]);
         return 64;
@@ -105,11 +113,16 @@ int main(int count, char **words) {
         seals += is_named(kept, &field, "ARC-Seal");
         if (!is_named(kept, &field, "Authentication-Results"))
             continue;
+        const uint8_t *field_body = kept + field.body_start;
+        size_t body_length = field.end - 2 - field.body_start;
+        orbendash_whose_answer owner = orbendash_whose(list, list_length, field_body, body_length);
+        if (owner.number != ORBENDASH_DONE)
+            return refused("whose", owner.number, owner.place);
+        static const char *const owners[] = {"ours", "another's", "unreadable"};
         orbendash_report_answer answer =
-            orbendash_report(kept + field.body_start, field.end - 2 - field.body_start, report,
-                             sizeof report);
-        printf("field %zu: answer %u, %zu results ignored\n", number, answer.number,
-               answer.ignored);
+            orbendash_report(field_body, body_length, report, sizeof report);
+        printf("field %zu, %s: %s, %zu results ignored\n", number, owners[owner.whose],
+               orbendash_text(answer.number), answer.ignored);
         fwrite(report, 1, answer.written, stdout);
     }
 

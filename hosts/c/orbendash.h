@@ -1,12 +1,14 @@
 /*
- * Orbendash: Authentication-Results and ARC header fields for mail gateways.
+ * Orbendash: Authentication-Results and ARC header fields for mail gateways, on x86-64 Linux.
  *
- * Five calls, each on bytes that the caller owns: strip forged fields from a header block,
- * report one field body, write one from its report, judge the ARC chain of a block, and walk a
- * block's fields. Link with liborbendash.a.
+ * Six calls, each on bytes that the caller owns: strip forged fields from a header block, ask
+ * whose field a body is, report one body, write one from its report, judge the ARC chain of a
+ * block, and walk a block's fields. Link with liborbendash.a (pkg-config: orbendash); C99 or
+ * C++. The manual page is orbendash(3).
  *
  * Any bytes may be handed in. Every call ends, keeps nothing, and answers with a struct by
- * value. A header block has no empty line after it, and its lines end with CRLF.
+ * value; an answer that is dropped is warned of. A header block has no empty line after it, and
+ * its lines end with CRLF.
  *
  * A pointer and the length after it are one piece of memory. Hand in a pointer to something
  * also where the length is 0. An output must not overlap an input.
@@ -17,26 +19,52 @@
 #include <stddef.h>
 #include <stdint.h>
 
+#if defined(__GNUC__) && !(defined(__x86_64__) && defined(__linux__) && !defined(__ILP32__))
+#error "liborbendash.a is for x86-64 Linux, with 64-bit pointers"
+#endif
+
+#ifdef __GNUC__
+#define ORBENDASH_CHECKED __attribute__((warn_unused_result))
+#else
+#define ORBENDASH_CHECKED
+#endif
+
 #ifdef __cplusplus
 extern "C" {
 #endif
 
+/* ---- Version ---- */
+
+#define ORBENDASH_VERSION_MAJOR 0
+#define ORBENDASH_VERSION_MINOR 1
+#define ORBENDASH_VERSION_PATCH 0
 #define ORBENDASH_VERSION "0.1.0"
 
-/* Limits. There is none on the results in a field. */
-enum {
-    ORBENDASH_BYTES = 65536,     /* the most bytes of a block or a body */
-    ORBENDASH_FIELDS = 512,      /* the most fields of a block */
-    ORBENDASH_ENTRIES = 64,      /* the most entries of the own list */
-    ORBENDASH_ENTRY_BYTES = 255, /* the most bytes of one, without its LF */
-    ORBENDASH_INSTANCES = 50     /* the highest instance of an ARC chain */
-};
+/* One number, which is greater for a later version. */
+#define ORBENDASH_VERSION_NUMBER                                                                   \
+    (10000 * ORBENDASH_VERSION_MAJOR + 100 * ORBENDASH_VERSION_MINOR + ORBENDASH_VERSION_PATCH)
+
+/* That number of the library that was linked. Where it isn't ORBENDASH_VERSION_NUMBER, this
+   header is another version's. */
+ORBENDASH_CHECKED uint32_t orbendash_version(void);
+
+/* ---- Limits ---- */
+
+/* There is none on the results in a field. */
+#define ORBENDASH_BYTES 65536     /* the most bytes of a block or a body */
+#define ORBENDASH_FIELDS 512      /* the most fields of a block */
+#define ORBENDASH_ENTRIES 64      /* the most entries of the own list */
+#define ORBENDASH_ENTRY_BYTES 255 /* the most bytes of one, without its LF */
+#define ORBENDASH_COMMENTS 16     /* how deep comments may be nested */
+#define ORBENDASH_INSTANCES 50    /* the highest instance of an ARC chain */
 
 /* The most bytes of a good list, LFs included. */
 #define ORBENDASH_LIST_BYTES (ORBENDASH_ENTRIES * (ORBENDASH_ENTRY_BYTES + 1))
 
 /* A room that the report of a body of so many bytes always fits. */
 #define ORBENDASH_REPORT_ROOM(body_length) (3 * (size_t)(body_length) + 4)
+
+/* ---- Numbers ---- */
 
 /*
  * Answer numbers. All but 0 and 8 are refusals: nothing is written, and in the struct all but
@@ -78,6 +106,39 @@ enum {
     ORBENDASH_BAD_LINES = 11
 };
 
+/* What a number says, in words for a log. */
+static inline const char *orbendash_text(unsigned number) {
+    switch (number) {
+    case ORBENDASH_DONE:
+        return "done";
+    case ORBENDASH_TOO_LONG:
+        return "more than 65,536 bytes";
+    case ORBENDASH_BAD_LINE_END:
+        return "a CR without LF, an LF without CR, or a last line without CRLF";
+    case ORBENDASH_BAD_LINE:
+        return "an empty line, a first line that starts with space or tab, or a field without "
+               "name or colon";
+    case ORBENDASH_TOO_MANY_FIELDS:
+        return "a 513th field";
+    case ORBENDASH_BAD_LIST:
+        return "a bad entry of the own list";
+    case ORBENDASH_NO_ROOM:
+        return "the output is too short";
+    case ORBENDASH_BAD_IDENTIFIER:
+        return "the identifier can't be read";
+    case ORBENDASH_OTHER_VERSION:
+        return "the header version isn't 1";
+    case ORBENDASH_BAD_BODY:
+        return "the body isn't well-formed";
+    case ORBENDASH_BAD_VERDICTS:
+        return "the verdicts don't fit the chain";
+    case ORBENDASH_BAD_LINES:
+        return "no body has that report";
+    default:
+        return "no answer of this library";
+    }
+}
+
 /* ---- Strip ---- */
 
 typedef struct {
@@ -109,9 +170,37 @@ typedef struct {
  * The first of these that applies is the number: 1 the block is too long; 5 a bad list; 2, 3 or
  * 4 a bad block; 6 no room; 0 done.
  */
-orbendash_strip_answer orbendash_strip(const uint8_t *block, size_t block_length,
-                                       const uint8_t *list, size_t list_length,
-                                       uint8_t *out, size_t out_length);
+ORBENDASH_CHECKED orbendash_strip_answer
+orbendash_strip(const uint8_t *block, size_t block_length, const uint8_t *list, size_t list_length,
+                uint8_t *out, size_t out_length);
+
+/* ---- Whose ---- */
+
+/* Whose a field is, by its identifier. */
+enum {
+    ORBENDASH_OURS = 0,        /* it is on our own list: stripping removes the field */
+    ORBENDASH_ANOTHERS = 1,    /* it is not: stripping keeps the field */
+    ORBENDASH_NOT_READABLE = 2 /* it can't be read: stripping removes the field */
+};
+
+typedef struct {
+    uint8_t number; /* 0, 1 or 5 */
+    uint8_t whose;  /* see above; 0 with a refusal */
+    size_t place;   /* see the numbers */
+} orbendash_whose_answer;
+
+/*
+ * Says whose an Authentication-Results field is, from our own list and its body. The body runs
+ * from after the field's colon to before its last CRLF; behind the identifier nothing of it is
+ * read. List and comparison are those of orbendash_strip, which removes exactly the fields of
+ * that name whose answer here is not ORBENDASH_ANOTHERS.
+ *
+ * It needs up to 88 KB of stack.
+ *
+ * The first of these that applies is the number: 1 the body is too long; 5 a bad list; 0 done.
+ */
+ORBENDASH_CHECKED orbendash_whose_answer
+orbendash_whose(const uint8_t *list, size_t list_length, const uint8_t *body, size_t body_length);
 
 /* ---- Report ---- */
 
@@ -146,8 +235,8 @@ typedef struct {
  * a bad body; 6 no room; 8 another header version; 0 done. After a header version other than 1
  * nothing is read, so a bad body is 8 or 6 then.
  */
-orbendash_report_answer orbendash_report(const uint8_t *body, size_t body_length,
-                                         uint8_t *out, size_t out_length);
+ORBENDASH_CHECKED orbendash_report_answer
+orbendash_report(const uint8_t *body, size_t body_length, uint8_t *out, size_t out_length);
 
 /* ---- Write ---- */
 
@@ -179,8 +268,8 @@ typedef struct {
  * The first of these that applies is the number: 11 no body has that report; 1 the body would be
  * too long; 6 no room; 0 done.
  */
-orbendash_write_answer orbendash_write(const uint8_t *lines, size_t lines_length,
-                                       uint8_t *out, size_t out_length);
+ORBENDASH_CHECKED orbendash_write_answer
+orbendash_write(const uint8_t *lines, size_t lines_length, uint8_t *out, size_t out_length);
 
 /* ---- Judge ---- */
 
@@ -235,8 +324,9 @@ typedef struct {
  * The first of these that applies is the number: 1 the block is too long; 2, 3 or 4 a bad
  * block; 10 bad verdicts, of another count or with a byte over 3; 0 done.
  */
-orbendash_judge_answer orbendash_judge(const uint8_t *block, size_t block_length,
-                                       const uint8_t *verdicts, size_t verdicts_length);
+ORBENDASH_CHECKED orbendash_judge_answer
+orbendash_judge(const uint8_t *block, size_t block_length, const uint8_t *verdicts,
+                size_t verdicts_length);
 
 /* ---- Walk ---- */
 
@@ -258,8 +348,8 @@ typedef struct {
  * Number 0 with found 1: a field. Number 0 with found 0: there are no more, and the block is
  * sound. 1: the block is too long. 2, 3 or 4: there are no more before the bad line.
  */
-orbendash_field_answer orbendash_next_field(const uint8_t *block, size_t block_length,
-                                            size_t place);
+ORBENDASH_CHECKED orbendash_field_answer
+orbendash_next_field(const uint8_t *block, size_t block_length, size_t place);
 
 #ifdef __cplusplus
 }

@@ -1,1 +1,3 @@
 pub mod Returned
+pub mod Owners
+pub mod WhoseExamples

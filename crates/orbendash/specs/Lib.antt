@@ -1,1 +1,3 @@
 pub mod Faces
+pub mod Whose
+pub mod Version

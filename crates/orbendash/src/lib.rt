@@ -2,7 +2,9 @@
 //
 // A slice is a pointer and a length. A struct is returned by value. On a refusal all but number and place are 0.
 use answer_numbers::Number;
+use authserv_rules::Own;
 use fields_rules::Step;
+use listing::Checked;
 ghost use mathlib.Core.Path.{_≡_};
 ghost use lib.ListN.{length};
 ghost use Rattle.strip_rules.specs.Strip.{strip};
@@ -13,7 +15,12 @@ ghost use Rattle.arc_rules.specs.Chain.{judge};
 ghost use Rattle.fields_rules.specs.Steps.{stepFrom};
 ghost use Rattle.compose.specs.Compose.{compose};
 ghost use Rattle.compose.specs.Answers as writing;
+ghost use Rattle.authserv_rules.specs.OwnList.{ownList};
+ghost use Rattle.authserv_rules.specs.Identifier.{identifier};
+ghost use Rattle.authserv_rules.specs.Listed.{ownOf};
 ghost use Rattle.orbendash.specs.Faces.{stripFace, reportFace, writeFace, hasOldestPass, judgeFace, nextFace};
+ghost use Rattle.orbendash.specs.Whose.{ownerCode, refuseWhose, whose};
+ghost use Rattle.orbendash.specs.Version.{versionNumber};
 
 // What `orbendash_strip` returns.
 #[repr(C)]
@@ -66,6 +73,14 @@ pub struct NextFace {
     pub name_end: usize,
     pub body_start: usize,
     pub end: usize,
+}
+
+// `whose` is 0 where the identifier is ours, 1 where it is another's, 2 where it can't be read.
+#[repr(C)]
+pub struct WhoseFace {
+    pub number: u8,
+    pub whose: u8,
+    pub place: usize,
 }
 
 // The block without the Authentication-Results fields that speak in our own name or in none (`strip::strip`).
@@ -172,4 +187,64 @@ pub extern "C" fn orbendash_next_field(s: &[u8], place: usize) -> NextFace
             end: 0,
         },
     }
+}
+
+fn owner_code(o: Own) -> u8
+    ensures { λ r. ⌜ r ≡ ownerCode o ⌝ }
+{
+    match o {
+        Own::Ours => 0,
+        Own::Others => 1,
+        Own::Unreadable => 2,
+    }
+}
+
+fn refuse_whose(number: u8, place: usize) -> WhoseFace
+    ensures { λ r. ⌜ r ≡ refuseWhose number place ⌝ }
+{
+    WhoseFace {
+        number,
+        whose: 0,
+        place,
+    }
+}
+
+// Whose the identifier of a body is, by a good list. One without two hyphens in a row is compared as it stands.
+fn owner_of(list: &[u8], body: &[u8]) -> Own
+    requires { ⌜ ownList (now list) .number ≡ 0 ⌝ }
+    ensures { λ r. ⌜ r ≡ ownOf (ownList (now (list .entry)) .items) (identifier (now (body .entry))) ⌝ }
+{
+    if hyphens::has_double_hyphen(list) {
+        return ownlist::whose(list, body);
+    }
+    ownlist::whose_spelled(list, body)
+}
+
+// Whose the identifier of a field body is: ours, another's, or unreadable (`ownlist::whose`). 1 where the body is too long, then 5 where the list is bad.
+#[no_mangle]
+pub extern "C" fn orbendash_whose(list: &[u8], body: &[u8]) -> WhoseFace
+    ensures { λ r. ⌜ r ≡ whose (now (list .entry)) (now (body .entry)) ⌝ }
+{
+    if lexis::too_long(body) {
+        return refuse_whose(Number::TOO_LONG, 0);
+    }
+    match listing::check_list(list) {
+        Checked::Bad { place } => {
+            return refuse_whose(Number::BAD_LIST, place);
+        }
+        Checked::Good => {}
+    }
+    WhoseFace {
+        number: Number::DONE,
+        whose: owner_code(owner_of(list, body)),
+        place: 0,
+    }
+}
+
+// The library's version as one number; that of the header it was built with is ORBENDASH_VERSION_NUMBER.
+#[no_mangle]
+pub extern "C" fn orbendash_version() -> u32
+    ensures { λ r. ⌜ r ≡ versionNumber ⌝ }
+{
+    100
 }

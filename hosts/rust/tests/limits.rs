@@ -6,17 +6,11 @@ use orbendash_host::{limit, number, report, strip};
 /// The number that the C header gives a name.
 fn named(name: &str) -> usize {
     let header = include_str!("../../c/orbendash.h");
-    let line = header
+    let value = header
         .lines()
-        .find(|line| line.trim_start().starts_with(&format!("{name} =")))
+        .find_map(|line| line.strip_prefix(&format!("#define {name} ")))
         .unwrap_or_else(|| panic!("{name} isn't in the header"));
-    let value = line.split('=').nth(1).unwrap();
-    let digits: String = value
-        .trim()
-        .chars()
-        .take_while(char::is_ascii_digit)
-        .collect();
-    digits.parse().unwrap()
+    value.split_whitespace().next().unwrap().parse().unwrap()
 }
 
 #[test]
