@@ -1,33 +1,30 @@
-//! Orbendash for Rust programs: Authentication-Results and ARC header fields.
+//! The calls as the C header has them: a number, a place and counts, in lent buffers.
 //!
-//! The calls are those of the static library `liborbendash.a`, made safe: [`strip`], [`report`],
-//! [`write`], [`judge`], [`next_field`], and [`fields`] to walk a whole block. Any bytes may be
-//! handed in. Each call answers with a struct that holds a [`number`], a place and its counts; see
-//! [`answer`] for every number and code.
-//!
-//! [`mod@reference`] implements the same rules a second time and has nothing to do with the
-//! library; the tests compare the two.
+//! They are safe, and answer what the library answers, with nothing put between: any bytes may be
+//! handed in, and nothing is allocated. [`strip`](crate::strip) and the others at the top of this
+//! package say the same with enums. Each answer has a [`number`]; on a refusal, that is on every
+//! number but 0 and 8, nothing was written.
 //!
 //! ```
+//! use orbendash::raw;
+//!
 //! let block = b"Authentication-Results : Example.COM; none\r\nFrom: a@b.example\r\n";
 //! let mut out = vec![0; block.len()];
-//! let answer = orbendash_host::strip(block, b"example.com\n", &mut out);
+//! let answer = raw::strip(block, b"example.com\n", &mut out);
 //! assert_eq!((answer.number, answer.fields), (0, 1));
 //! assert_eq!(&out[..answer.kept], b"From: a@b.example\r\n");
 //! ```
 
-pub mod answer;
-pub mod limit;
-pub mod reference;
+mod answer;
 
 pub use answer::{
-    number, outcome, reason, status, FieldAnswer, JudgeAnswer, ReportAnswer, StripAnswer,
-    WriteAnswer,
+    number, outcome, reason, status, whose, FieldAnswer, JudgeAnswer, ReportAnswer, StripAnswer,
+    WhoseAnswer, WriteAnswer,
 };
 
 /// The functions of the static library. A slice is a pointer and a length.
 mod library {
-    use crate::answer::{FieldAnswer, JudgeAnswer, ReportAnswer, StripAnswer, WriteAnswer};
+    use super::{FieldAnswer, JudgeAnswer, ReportAnswer, StripAnswer, WhoseAnswer, WriteAnswer};
 
     extern "C" {
         pub fn orbendash_strip(
@@ -61,6 +58,13 @@ mod library {
             block_length: usize,
             place: usize,
         ) -> FieldAnswer;
+        pub fn orbendash_whose(
+            list: *const u8,
+            list_length: usize,
+            body: *const u8,
+            body_length: usize,
+        ) -> WhoseAnswer;
+        pub fn orbendash_version() -> u32;
     }
 }
 
@@ -98,7 +102,7 @@ pub fn strip(block: &[u8], list: &[u8], out: &mut [u8]) -> StripAnswer {
 /// by LF with columns parted by tabs: `id`, text; `none`; for each result that isn't ignored `m`,
 /// method, result, then `r`, text if there is a reason, and `p`, ptype, property, kind (t token,
 /// q quoted, m mailbox, a at-domain), text for each property. In texts the bytes outside 33 to
-/// 126 and the percent sign are % and two hex digits. [`limit::report_room`] is always enough
+/// 126 and the percent sign are % and two hex digits. [`limit::report_room`](crate::limit::report_room) is always enough
 /// room.
 ///
 /// The first of these that applies is the number: 1 the body is over 65,536 bytes; 7 the
@@ -120,7 +124,7 @@ pub fn report(body: &[u8], out: &mut [u8]) -> ReportAnswer {
 /// The body starts with a space, and has no other space or folding than one before each reason and
 /// property and one after each ";". Identifier, reason and local part are written bare where they can
 /// be, else as a quoted string. Its report is these very lines, and no result of it is ignored. A
-/// field is the name, a colon, the body and CRLF. A room of [`limit::BYTES`] is always enough.
+/// field is the name, a colon, the body and CRLF. A room of [`limit::BYTES`](crate::limit::BYTES) is always enough.
 ///
 /// The first of these that applies is the number: 11 no well-formed body without ignored results has
 /// that report, with the line as place; 1 the body would be over 65,536 bytes; 6 the room is too
@@ -128,14 +132,14 @@ pub fn report(body: &[u8], out: &mut [u8]) -> ReportAnswer {
 ///
 /// ```
 /// let lines = b"id\tmx.example.com\nm\tspf\tpass\nr\tknown%20host\np\tsmtp\tmailfrom\tt\ta.b\n";
-/// let mut out = vec![0; orbendash_host::limit::BYTES];
-/// let answer = orbendash_host::write(lines, &mut out);
+/// let mut out = vec![0; orbendash::limit::BYTES];
+/// let answer = orbendash::raw::write(lines, &mut out);
 /// assert_eq!(answer.number, 0);
 /// assert_eq!(
 ///     &out[..answer.written],
 ///     b" mx.example.com; spf=pass reason=\"known host\" smtp.mailfrom=a.b"
 /// );
-/// let refused = orbendash_host::write(b"id\tmx.example.com\nm\tspf\tmaybe\n", &mut out);
+/// let refused = orbendash::raw::write(b"id\tmx.example.com\nm\tspf\tmaybe\n", &mut out);
 /// assert_eq!((refused.number, refused.place), (11, 2));
 /// ```
 pub fn write(lines: &[u8], out: &mut [u8]) -> WriteAnswer {
@@ -173,81 +177,20 @@ pub fn next_field(block: &[u8], place: usize) -> FieldAnswer {
     unsafe { library::orbendash_next_field(block.as_ptr(), block.len(), place) }
 }
 
-/// Walks the fields of a header block.
-pub fn fields(block: &[u8]) -> Fields<'_> {
-    Fields {
-        block,
-        place: 0,
-        given: 0,
-        done: false,
-    }
+/// Says whose an Authentication-Results field is, by our own list and the field's body: see
+/// [`whose`](mod@whose).
+///
+/// The first of these that applies is the number: 1 the body is over 65,536 bytes; 5 a bad list;
+/// 0 done.
+pub fn whose(list: &[u8], body: &[u8]) -> WhoseAnswer {
+    // SAFETY: as in `strip`; nothing is written.
+    unsafe { library::orbendash_whose(list.as_ptr(), list.len(), body.as_ptr(), body.len()) }
 }
 
-/// A field of a header block.
-#[derive(Clone, Copy, Debug, PartialEq, Eq)]
-pub struct Field<'a> {
-    /// Where the field starts in its block.
-    pub start: usize,
-    /// The name, without the space that may stand before the colon.
-    pub name: &'a [u8],
-    /// From after the colon to before the last CRLF; what [`report`] takes.
-    pub body: &'a [u8],
-    /// The whole field with its last CRLF.
-    pub bytes: &'a [u8],
+/// The version of the library that was linked: 10,000 for each major, 100 for each minor version
+/// and 1 for each patch.
+#[must_use]
+pub fn version() -> u32 {
+    // SAFETY: it takes nothing and reads nothing.
+    unsafe { library::orbendash_version() }
 }
-
-/// Why a walk ended early: number 1 to 4 and its place.
-#[derive(Clone, Copy, Debug, PartialEq, Eq)]
-pub struct Refusal {
-    /// See [`number`].
-    pub number: u8,
-    /// See [`number`].
-    pub place: usize,
-}
-
-/// The fields of a block in order. A bad block gives the fields before its bad line, and then
-/// the refusal once. The whole walk takes time in proportion to the block.
-#[derive(Clone, Debug)]
-pub struct Fields<'a> {
-    block: &'a [u8],
-    place: usize,
-    given: usize,
-    done: bool,
-}
-
-impl<'a> Iterator for Fields<'a> {
-    type Item = Result<Field<'a>, Refusal>;
-
-    fn next(&mut self) -> Option<Self::Item> {
-        if self.done {
-            return None;
-        }
-        // A call reads the block from its front, so it is handed only what is left: where a
-        // field ends, the rest is a block by itself. It has its own count of fields, though, so
-        // after the most that a block may have, the whole block is asked.
-        let from = if self.given < limit::FIELDS {
-            self.place
-        } else {
-            0
-        };
-        let rest = &self.block[from..];
-        let answer = next_field(rest, self.place - from);
-        if answer.found == 1 {
-            self.place = from + answer.end;
-            self.given += 1;
-            return Some(Ok(Field {
-                start: from + answer.start,
-                name: &rest[answer.start..answer.name_end],
-                body: &rest[answer.body_start..answer.end - 2],
-                bytes: &rest[answer.start..answer.end],
-            }));
-        }
-        self.done = true;
-        (answer.number != number::DONE).then_some(Err(Refusal {
-            number: answer.number,
-            place: from + answer.place,
-        }))
-    }
-}
-
-impl std::iter::FusedIterator for Fields<'_> {}

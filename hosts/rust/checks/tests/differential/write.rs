@@ -18,7 +18,7 @@ fn count_lines(bytes: &[u8]) -> usize {
 
 /// The report of a body that was written.
 fn report_of(body: &[u8]) -> (u8, usize, Vec<u8>) {
-    let mut out = vec![0; library::limit::report_room(body.len())];
+    let mut out = vec![0; orbendash::limit::report_room(body.len())];
     let answer = library::report(body, &mut out);
     out.truncate(answer.written);
     (answer.number, answer.ignored, out)
@@ -48,7 +48,7 @@ fn check_place(bytes: &[u8], place: usize) -> Result<(), String> {
 
 fn check_write(bytes: &[u8]) -> Result<Vec<library::WriteAnswer>, String> {
     // A body has at most two bytes for each of its lines': a quote or backslash makes two.
-    let enough = (2 * bytes.len()).min(library::limit::BYTES);
+    let enough = (2 * bytes.len()).min(orbendash::limit::BYTES);
     let mut body = vec![0; enough];
     let whole = reference::write(bytes, &mut body);
     assert_ne!(whole.number, 6, "this room is enough");
@@ -114,7 +114,7 @@ fn run_long(tally: &mut Tally) {
 fn write() {
     let mut tally = Tally::new("write");
     for bytes in sequences() {
-        run_write(&mut tally, &bytes);
+        let _ = run_write(&mut tally, &bytes);
     }
     // Every byte in every column of every line, raw and as a percent form.
     let whole = b"id\ta\nm\tspf\tpass\nr\tb\np\tsmtp\tc\tt\td\np\tbody\te\tq\tf\n\
@@ -122,11 +122,11 @@ fn write() {
     for at in 0..=whole.len() {
         for byte in 0..=255u8 {
             let (before, behind) = whole.split_at(at);
-            run_write(&mut tally, &[before, &[byte], behind].concat());
+            let _ = run_write(&mut tally, &[before, &[byte], behind].concat());
             let form = format!("%{byte:02X}").into_bytes();
-            run_write(&mut tally, &[before, &form, behind].concat());
+            let _ = run_write(&mut tally, &[before, &form, behind].concat());
             if at < whole.len() {
-                run_write(&mut tally, &[before, &[byte], &behind[1..]].concat());
+                let _ = run_write(&mut tally, &[before, &[byte], &behind[1..]].concat());
             }
         }
     }
@@ -150,7 +150,7 @@ fn write() {
             3 | 4 => {
                 let other = ended(&lines(&mut rng, 2));
                 let damaged = damaged(&mut rng, &bytes, &other);
-                run_write(&mut tally, &damaged);
+                let _ = run_write(&mut tally, &damaged);
             }
             _ => {
                 let flaw = &FLAWS[rng.below(FLAWS.len())];
@@ -184,7 +184,7 @@ fn run_back(tally: &mut Tally, bytes: &[u8]) {
         return;
     }
     tally.inputs += 1;
-    let mut out = vec![0; library::limit::BYTES];
+    let mut out = vec![0; orbendash::limit::BYTES];
     let answer = library::write(&report, &mut out);
     // The layout that is written may be longer than the one that was read.
     assert!(

@@ -8,8 +8,8 @@ mod common;
 use std::fmt::Debug;
 
 use common::{setting, shown, tell};
-use orbendash_host as library;
-use orbendash_host::reference;
+use orbendash::raw as library;
+use orbendash_checks::reference;
 
 /// Past two windows of sixteen bytes and what is looked at behind them.
 const DEFAULT_LONGEST: u64 = 36;

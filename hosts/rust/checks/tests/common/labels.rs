@@ -3,7 +3,7 @@
 
 use super::punycode::{encode, points};
 use super::{cased, Rng, LIMIT};
-use orbendash_host::reference::compared;
+use orbendash_checks::reference::compared;
 
 /// A label's code points; or, where it isn't to decode, any numbers.
 type Label = Vec<u128>;

@@ -1,11 +1,12 @@
 //! The limits stand in three places for three languages: the library's crates, the C header and
 //! `limit`. These tests tie them together.
 
-use orbendash_host::{limit, number, report, strip};
+use orbendash::limit;
+use orbendash::raw::{number, report, strip};
 
 /// The number that the C header gives a name.
 fn named(name: &str) -> usize {
-    let header = include_str!("../../c/orbendash.h");
+    let header = include_str!("../../../c/orbendash.h");
     let value = header
         .lines()
         .find_map(|line| line.strip_prefix(&format!("#define {name} ")))
@@ -19,6 +20,7 @@ fn the_header_has_the_same_limits() {
     assert_eq!(named("ORBENDASH_FIELDS"), limit::FIELDS);
     assert_eq!(named("ORBENDASH_ENTRIES"), limit::ENTRIES);
     assert_eq!(named("ORBENDASH_ENTRY_BYTES"), limit::ENTRY_BYTES);
+    assert_eq!(named("ORBENDASH_COMMENTS"), limit::COMMENTS);
     assert_eq!(named("ORBENDASH_INSTANCES"), limit::INSTANCES);
 }
 

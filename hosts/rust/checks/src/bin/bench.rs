@@ -10,8 +10,8 @@ use std::hint::black_box;
 use std::process::{Command, ExitCode};
 use std::time::{Duration, Instant};
 
-use orbendash_host as library;
-use orbendash_host::reference;
+use orbendash::raw as library;
+use orbendash_checks::reference;
 
 #[path = "../../tests/common/appendix_b.rs"]
 mod appendix_b;
@@ -848,7 +848,7 @@ fn print_times() {
         "call", "input", "answer", "bytes", "ns per call", "/reference", "/memcpy", "32K to 64K"
     );
     let mail = mail();
-    assert_eq!(library::fields(&mail).count(), 32);
+    assert_eq!(orbendash::fields(&mail).count(), 32);
     strip_rows(&mail);
     report_rows();
     write_rows();

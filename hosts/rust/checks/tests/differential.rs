@@ -17,10 +17,10 @@ use common::{
     arc_field, block, body, chain, damaged, high_bytes, list, pad_block, setting, shown, tell, Rng,
     DEFAULT_SEED, HIGH_BYTES, LIMIT,
 };
-use orbendash_host as library;
-use orbendash_host::reference;
+use orbendash::raw as library;
+use orbendash_checks::reference;
 
-const DEFAULT_CASES: u64 = 480_000;
+const DEFAULT_CASES: u64 = 560_000;
 
 /// How often each answer came, from the edge cases and from the generated inputs.
 struct Tally {
@@ -42,9 +42,9 @@ impl Tally {
         }
     }
 
-    /// How many inputs this test generates: the six share the count.
+    /// How many inputs this test generates: the seven share the count.
     fn cases(&self) -> usize {
-        (setting("ORBENDASH_CASES", DEFAULT_CASES) as usize).div_ceil(6)
+        (setting("ORBENDASH_CASES", DEFAULT_CASES) as usize).div_ceil(7)
     }
 
     fn rng(&self) -> Rng {
@@ -195,9 +195,39 @@ fn any_block(rng: &mut Rng, arc: bool) -> (Vec<u8>, usize) {
 
 // strip
 
+/// Whose each field is that stripping looks at: the same by both, and the fields that go are those
+/// that are not another's. It is asked field by field, so not of long blocks.
+fn check_whose(block: &[u8], list: &[u8], whole: &library::StripAnswer) -> Result<(), String> {
+    let mut gone = 0;
+    for field in orbendash::fields(block).flatten() {
+        if !field.is_named("Authentication-Results") {
+            continue;
+        }
+        let ours = library::whose(list, field.body);
+        let theirs = reference::whose(list, field.body);
+        if ours != theirs {
+            return Err(format!(
+                "whose differs: {}\n library {ours:?}\n reference {theirs:?}",
+                shown(field.body)
+            ));
+        }
+        if whole.number == 5 && (ours.number, ours.whose, ours.place) != (5, 0, whole.place) {
+            return Err(format!("whose refuses another list: {ours:?}"));
+        }
+        gone += usize::from(ours.whose != library::whose::OTHERS);
+    }
+    if whole.number == 0 && gone != whole.fields {
+        return Err(format!("{gone} fields are ours or unreadable: {whole:?}"));
+    }
+    Ok(())
+}
+
 fn check_strip(block: &[u8], list: &[u8]) -> Result<Vec<u8>, String> {
     let whole = reference::strip(block, list, &mut vec![0; block.len()]);
     assert_ne!(whole.number, 6, "a room of the block's length is enough");
+    if block.len() < 4000 {
+        check_whose(block, list, &whole)?;
+    }
     let mut seen = Vec::new();
     for room in rooms(whole.kept, block.len()) {
         let ours = lend(room, |out| library::strip(block, list, out));
@@ -385,6 +415,48 @@ fn international_labels() {
     ] {
         wanted.push(answer.to_string());
     }
+    tally.finish(&wanted);
+}
+
+// whose
+
+#[test]
+fn whose() {
+    let mut tally = Tally::new("whose");
+    let run = |tally: &mut Tally, list: &[u8], body: &[u8]| {
+        tally.inputs += 1;
+        let ours = library::whose(list, body);
+        let theirs = reference::whose(list, body);
+        let inputs = || format!("list {}\n body {}", shown(list), shown(body));
+        assert_eq!(ours, theirs, "{}\n library and reference", inputs());
+        tally.count(match ours.number {
+            0 => format!("number  0, whose {}", ours.whose),
+            number => format!("number {number:>2}"),
+        });
+    };
+    for list in edges::lists() {
+        for body in edges::bodies() {
+            run(&mut tally, &list, &body);
+        }
+        for length in [LIMIT, LIMIT + 1] {
+            run(&mut tally, &list, &vec![b'a'; length]);
+        }
+    }
+    tally.generated = true;
+    let mut rng = tally.rng();
+    for _ in 0..tally.cases() {
+        let mut bytes = body(&mut rng, 1, true).bytes();
+        if rng.chance(20) {
+            bytes = damaged(&mut rng, &bytes, b"example.com;");
+        }
+        let mut list = list(&mut rng);
+        if rng.chance(3) {
+            list = damaged(&mut rng, &list, &bytes);
+        }
+        run(&mut tally, &list, &bytes);
+    }
+    let mut wanted = numbers(&[1, 5]);
+    wanted.extend((0..3).map(|whose| format!("number  0, whose {whose}")));
     tally.finish(&wanted);
 }
 
@@ -634,13 +706,13 @@ fn run_next_field(tally: &mut Tally, block: &[u8], place: usize) {
 /// The whole walk, and what it must be by the answers of the reference.
 fn run_walk(tally: &mut Tally, block: &[u8]) {
     let mut place = 0;
-    let mut walk = library::fields(block);
+    let mut walk = orbendash::fields(block).map(|step| step.map_err(|r| (r.number(), r.place())));
     loop {
         run_next_field(tally, block, place);
         let answer = reference::next_field(block, place);
         let step = walk.next();
         if answer.found == 1 {
-            let field = library::Field {
+            let field = orbendash::Field {
                 start: answer.start,
                 name: &block[answer.start..answer.name_end],
                 body: &block[answer.body_start..answer.end - 2],
@@ -649,10 +721,7 @@ fn run_walk(tally: &mut Tally, block: &[u8]) {
             assert_eq!(step, Some(Ok(field)));
             place = answer.end;
         } else {
-            let refusal = library::Refusal {
-                number: answer.number,
-                place: answer.place,
-            };
+            let refusal = (answer.number, answer.place);
             assert_eq!(step, (answer.number != 0).then_some(Err(refusal)));
             assert_eq!(walk.next(), None);
             return;

@@ -9,7 +9,7 @@ use common::{
     before_version, body, damaged, other_number, result, setting, shown, tell, Body, Rng,
     DEFAULT_SEED, LIMIT,
 };
-use orbendash_host::{report, ReportAnswer};
+use orbendash::raw::{report, ReportAnswer};
 
 const DEFAULT_CASES: u64 = 10_000;
 

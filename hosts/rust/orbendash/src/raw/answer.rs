@@ -1,4 +1,4 @@
-//! What the five calls answer, laid out as the C header has it (`hosts/c/orbendash.h`).
+//! What the six calls answer, laid out as the C header has it (`hosts/c/orbendash.h`).
 //!
 //! Each answer has a `number` and a `place`. On a refusal, that is on every number but 0 and 8,
 //! all else is 0 and nothing was written. Bytes of a lent buffer past those written stay as
@@ -73,7 +73,18 @@ pub mod status {
     pub const FAIL: u8 = 2;
 }
 
+/// Whose a field is: the values of [`WhoseAnswer::whose`].
+pub mod whose {
+    /// Its identifier is on our own list: stripping removes the field.
+    pub const OURS: u8 = 0;
+    /// It is not: stripping keeps the field.
+    pub const OTHERS: u8 = 1;
+    /// It can't be read: stripping removes the field.
+    pub const UNREADABLE: u8 = 2;
+}
+
 /// The answer of `strip`: number 0 to 6.
+#[must_use]
 #[repr(C)]
 #[derive(Clone, Copy, Debug, Default, PartialEq, Eq)]
 pub struct StripAnswer {
@@ -90,6 +101,7 @@ pub struct StripAnswer {
 }
 
 /// The answer of `report`: number 0, 1, 6, 7, 8 or 9.
+#[must_use]
 #[repr(C)]
 #[derive(Clone, Copy, Debug, Default, PartialEq, Eq)]
 pub struct ReportAnswer {
@@ -104,6 +116,7 @@ pub struct ReportAnswer {
 }
 
 /// The answer of `write`: number 0, 1, 6 or 11.
+#[must_use]
 #[repr(C)]
 #[derive(Clone, Copy, Debug, Default, PartialEq, Eq)]
 pub struct WriteAnswer {
@@ -116,6 +129,7 @@ pub struct WriteAnswer {
 }
 
 /// The answer of `judge`: number 0 to 4 or 10.
+#[must_use]
 #[repr(C)]
 #[derive(Clone, Copy, Debug, Default, PartialEq, Eq)]
 pub struct JudgeAnswer {
@@ -140,6 +154,7 @@ pub struct JudgeAnswer {
 }
 
 /// The answer of `next_field`: number 0 to 4.
+#[must_use]
 #[repr(C)]
 #[derive(Clone, Copy, Debug, Default, PartialEq, Eq)]
 pub struct FieldAnswer {
@@ -157,4 +172,17 @@ pub struct FieldAnswer {
     pub body_start: usize,
     /// Where the field ends, its last CRLF included.
     pub end: usize,
+}
+
+/// The answer of `whose`: number 0, 1 or 5.
+#[must_use]
+#[repr(C)]
+#[derive(Clone, Copy, Debug, Default, PartialEq, Eq)]
+pub struct WhoseAnswer {
+    /// See [`number`].
+    pub number: u8,
+    /// See [`mod@whose`]; 0 with a refusal.
+    pub whose: u8,
+    /// See [`number`].
+    pub place: usize,
 }

@@ -5,8 +5,10 @@ mod common;
 
 use common::appendix_b::APPENDIX_B;
 use common::lines::ROWS;
-use orbendash_host as library;
-use orbendash_host::{limit, reference, WriteAnswer};
+use orbendash::limit;
+use orbendash::raw as library;
+use orbendash::raw::WriteAnswer;
+use orbendash_checks::reference;
 
 const BOTH: [fn(&[u8], &mut [u8]) -> WriteAnswer; 2] = [library::write, reference::write];
 

@@ -6,10 +6,11 @@ mod common;
 use common::appendix_b::APPENDIX_B;
 use common::deep;
 use common::rfc_3492::SAMPLES;
-use orbendash_host as library;
-use orbendash_host::{
-    outcome, reason, reference, status, FieldAnswer, JudgeAnswer, ReportAnswer, StripAnswer,
+use orbendash::raw as library;
+use orbendash::raw::{
+    outcome, reason, status, FieldAnswer, JudgeAnswer, ReportAnswer, StripAnswer,
 };
+use orbendash_checks::reference;
 
 /// The same calls from both.
 struct Calls {
@@ -414,10 +415,10 @@ fn fields() {
         }
         assert_eq!((calls.next_field)(&block[..15], 7), FieldAnswer::default());
     }
-    let names: Vec<_> = library::fields(block)
+    let names: Vec<_> = orbendash::fields(block)
         .map(|step| {
             step.map(|field| field.name)
-                .map_err(|r| (r.number, r.place))
+                .map_err(|r| (r.number(), r.place()))
         })
         .collect();
     assert_eq!(names, [Ok(&b"A"[..]), Ok(b"B"), Err((3, 15))]);

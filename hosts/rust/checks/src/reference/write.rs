@@ -3,7 +3,7 @@
 use std::borrow::Cow;
 
 use super::{is_keyword_byte, IDENTIFIER, LOCAL_PART, MAX_BYTES, METHODS, PLAIN, PTYPES, TOKEN};
-use crate::answer::{number, WriteAnswer};
+use orbendash::raw::{number, WriteAnswer};
 
 /// Writes the body that has these lines as its report.
 pub fn write(lines: &[u8], out: &mut [u8]) -> WriteAnswer {

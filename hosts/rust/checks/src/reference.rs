@@ -15,8 +15,9 @@ use std::borrow::Cow;
 use std::collections::HashSet;
 use std::ops::Range;
 
-use crate::answer::{
-    number, outcome, reason, status, FieldAnswer, JudgeAnswer, ReportAnswer, StripAnswer,
+use orbendash::raw::{
+    number, outcome, reason, status, whose as owner, FieldAnswer, JudgeAnswer, ReportAnswer,
+    StripAnswer, WhoseAnswer,
 };
 
 // "What the library is handed": the limits.
@@ -83,6 +84,29 @@ pub fn strip(block: &[u8], list: &[u8], out: &mut [u8]) -> StripAnswer {
         removed: removed_bytes,
         fields: removed.len(),
     }
+}
+
+/// Says whose the identifier of a body is, in stripping's order: 1 for the body, 5 for the list, and
+/// then what decides there whether a field goes.
+pub fn whose(list: &[u8], body: &[u8]) -> WhoseAnswer {
+    let answer = |number, whose, place| WhoseAnswer {
+        number,
+        whose,
+        place,
+    };
+    if body.len() > MAX_BYTES {
+        return answer(number::TOO_LONG, 0, 0);
+    }
+    let own = match own_list(list) {
+        Ok(own) => own,
+        Err(place) => return answer(number::BAD_LIST, 0, place),
+    };
+    let whose = match Cursor::new(body).identifier() {
+        Some(id) if own.has(&id.text()) => owner::OURS,
+        Some(_) => owner::OTHERS,
+        None => owner::UNREADABLE,
+    };
+    answer(number::DONE, whose, 0)
 }
 
 /// Writes the report of one Authentication-Results body ("The report").

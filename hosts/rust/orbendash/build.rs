@@ -1,4 +1,5 @@
-//! Finds the static library and tells cargo to link it.
+//! Finds the static library and tells cargo to link it: in `ORBENDASH_LIB_DIR`, or else where
+//! `rt staticlib orbendash` puts it in the repository.
 
 use std::env;
 use std::path::PathBuf;
@@ -9,7 +10,7 @@ fn main() {
     let dir = match env::var_os("ORBENDASH_LIB_DIR") {
         Some(dir) => PathBuf::from(dir),
         None => PathBuf::from(env::var_os("CARGO_MANIFEST_DIR").expect("cargo sets this"))
-            .join("../../target/staticlib"),
+            .join("../../../target/staticlib"),
     };
     let library = dir.join("liborbendash.a");
     println!("cargo:rerun-if-changed={}", library.display());

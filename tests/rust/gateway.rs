@@ -1,0 +1,30 @@
+//! What a gateway does with a message's header: strips it, shows what is left, judges its chain.
+
+use std::env;
+use std::error::Error;
+use std::fs;
+
+use orbendash::{fields, judge, report, strip, List, Verdict};
+
+fn main() -> Result<(), Box<dyn Error>> {
+    let mut words = env::args().skip(1);
+    let block = fs::read(words.next().ok_or("a block is missing")?)?;
+    let own = List::of(words)?;
+
+    let stripped = strip(&block, &own)?;
+    println!("{} fields removed", stripped.fields);
+    let mut seals = 0;
+    for field in fields(&stripped.block) {
+        let field = field?;
+        seals += usize::from(field.is_named("ARC-Seal"));
+        if field.is_named("Authentication-Results") {
+            match report(field.body) {
+                Ok(report) => print!("{report}"),
+                Err(refusal) => println!("not shown: {refusal}"),
+            }
+        }
+    }
+    let judged = judge(&stripped.block, &vec![Verdict::new(true, true); seals])?;
+    println!("{judged:?}");
+    Ok(())
+}
