@@ -1,3 +1,4 @@
 pub mod Returned
 pub mod Owners
 pub mod WhoseExamples
+pub mod Headlines

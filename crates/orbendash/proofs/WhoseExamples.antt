@@ -9,7 +9,7 @@ use Rattle.authserv_rules.proofs.Examples as authserv
 use Rattle.orbendash.specs.declared.WhoseFace.{WhoseFace}
 use Rattle.orbendash.specs.Whose.{whose}
 
-unfoldable opened : Unit {0}
+unfoldable pub opened : Unit {0}
 unfolding authserv.opened whose
 opened = tt
 

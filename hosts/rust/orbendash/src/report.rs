@@ -3,7 +3,7 @@
 use std::borrow::Cow;
 use std::fmt;
 use std::iter::FusedIterator;
-use std::str::{self, Split};
+use std::str;
 
 use crate::raw::{self, number};
 use crate::{limit, Refusal};
@@ -121,9 +121,7 @@ impl<'a> Report<'a> {
 
     /// Its lines.
     pub fn lines(&self) -> Lines<'_> {
-        Lines {
-            rest: self.text.split('\n'),
-        }
+        Lines { rest: &self.text }
     }
 
     /// Its lines as they are written, each ended by LF: what [`write`](crate::write) takes, if there
@@ -280,15 +278,16 @@ impl fmt::Display for Text<'_> {
 #[must_use]
 #[derive(Clone, Debug)]
 pub struct Lines<'a> {
-    rest: Split<'a, char>,
+    rest: &'a str,
 }
 
 impl<'a> Iterator for Lines<'a> {
     type Item = Line<'a>;
 
     fn next(&mut self) -> Option<Line<'a>> {
-        let mut columns = self.rest.next()?.split('\t');
-        // The report's last line ends with LF, behind which there is nothing.
+        let (line, rest) = self.rest.split_once('\n')?;
+        self.rest = rest;
+        let mut columns = line.split('\t');
         let mut column = || columns.next().unwrap_or("");
         Some(match column() {
             "id" => Line::Identifier(Text(column())),
@@ -310,7 +309,11 @@ impl<'a> Iterator for Lines<'a> {
                 },
                 value: Text(column()),
             },
-            _ => return None,
+            // A report has no other lines.
+            _ => {
+                self.rest = "";
+                return None;
+            }
         })
     }
 }

@@ -1,4 +1,4 @@
-//! Measures the five calls: `cargo run --release --bin bench`, and with `-- --counts` the
+//! Measures the six calls: `cargo run --release --bin bench`, and with `-- --counts` the
 //! instructions of the realistic calls, counted by valgrind, which are the same on each run.
 //!
 //! The linked library, the independent implementation and a copy of the same bytes take turns,
@@ -34,6 +34,10 @@ enum Call {
         block: Vec<u8>,
         list: Vec<u8>,
     },
+    Whose {
+        list: Vec<u8>,
+        body: Vec<u8>,
+    },
     Report {
         bodies: Vec<Vec<u8>>,
     },
@@ -60,6 +64,7 @@ impl Call {
     fn name(&self) -> &'static str {
         match self {
             Call::Strip { .. } => "strip",
+            Call::Whose { .. } => "whose",
             Call::Report { .. } => "report",
             Call::Write { .. } => "write",
             Call::Judge { .. } => "judge",
@@ -71,6 +76,7 @@ impl Call {
     /// The bytes that are read, without list and verdicts.
     fn input(&self) -> Vec<u8> {
         match self {
+            Call::Whose { body, .. } => body.clone(),
             Call::Report { bodies } => bodies.concat(),
             Call::Write { reports } => reports.concat(),
             Call::Strip { block, .. }
@@ -84,6 +90,7 @@ impl Call {
     fn library(&self, out: &mut [u8]) -> u8 {
         match self {
             Call::Strip { block, list } => black_box(library::strip(block, list, out)).number,
+            Call::Whose { list, body } => black_box(library::whose(list, body)).number,
             Call::Report { bodies } => bodies
                 .iter()
                 .map(|body| black_box(library::report(body, out)).number)
@@ -104,6 +111,7 @@ impl Call {
     fn reference(&self, out: &mut [u8]) -> u8 {
         match self {
             Call::Strip { block, list } => black_box(reference::strip(block, list, out)).number,
+            Call::Whose { list, body } => black_box(reference::whose(list, body)).number,
             Call::Report { bodies } => bodies
                 .iter()
                 .map(|body| black_box(reference::report(body, out)).number)
@@ -567,6 +575,29 @@ fn all_filled(rows: &[Filled], call: impl Fn(Vec<u8>) -> Call) {
     }
 }
 
+fn whose(list: &[u8], body: Vec<u8>) -> Call {
+    Call::Whose {
+        list: list.to_vec(),
+        body,
+    }
+}
+
+fn whose_rows() {
+    realistic(
+        "one field of 384 bytes",
+        whose(b"mx.example.com\nexample.com\n", FIELD.into()),
+    );
+    adversarial("comments before the identifier", |size| {
+        whose(b"a\n", filled(size, b"", b"((x))", b"a"))
+    });
+    adversarial("a long quoted identifier", |size| {
+        whose(b"a\n", filled(size, b"\"", b"\\x", b"\""))
+    });
+    adversarial("a long identifier, 64 long A-labels", |size| {
+        whose(&long_a_labels(), filled(size, b"", b"xn--tda.", b""))
+    });
+}
+
 fn strip_rows(mail: &[u8]) {
     let own = b"mx.example.com\nexample.com\n";
     realistic("mail of 32 fields", strip(mail.to_vec(), own));
@@ -763,6 +794,7 @@ fn realistic_calls() -> Vec<(&'static str, Call)> {
         ("Appendix B, all bodies", Call::Report { bodies }),
         ("one field of 384 bytes", report(FIELD.into())),
         ("mail of 32 fields", strip(mail.clone(), own)),
+        ("one field of 384 bytes", whose(own, FIELD.into())),
         (
             "mail of 32 fields, 2 sets",
             Call::Judge {
@@ -850,6 +882,7 @@ fn print_times() {
     let mail = mail();
     assert_eq!(orbendash::fields(&mail).count(), 32);
     strip_rows(&mail);
+    whose_rows();
     report_rows();
     write_rows();
     judge_rows(&mail);

@@ -1,4 +1,9 @@
 //! What a gateway does with a message's header: strips it, shows what is left, judges its chain.
+//!
+//!     cargo run --example gateway -- BLOCK IDENTIFIER...
+//!
+//! BLOCK is a file with a header block: lines ended by CRLF, without the empty line after it. The
+//! identifiers are our own.
 
 use std::env;
 use std::error::Error;
