@@ -78,6 +78,7 @@ int main(int count, char **words) {
     size_t length = fread(block, 1, sizeof block, file);
     if (ferror(file)) { /* a block that was cut short must not look like a whole one */
         perror(words[1]);
+        fclose(file);
         return 74;
     }
     fclose(file);
@@ -110,7 +111,7 @@ int main(int count, char **words) {
         if (!field.found)
             break;
         place = field.end;
-        seals += is_named(kept, &field, "ARC-Seal");
+        seals += is_named(kept, &field, "ARC-Seal") ? 1 : 0;
         if (!is_named(kept, &field, "Authentication-Results"))
             continue;
         const uint8_t *field_body = kept + field.body_start;
