@@ -1,0 +1,123 @@
+-- The columns of a line as the code finds them, and their texts stored. The premises are literally what a need is handed. Assumes nothing.
+use Prim.Native.Nat.{ℕ, suc, _+_, _-_, _≤_, _<_, _^_}
+use native.Mathlib.Numerals.{add-one}
+use native.Mathlib.Omega.{arith}
+use mathlib.Core.Path.{_≡_, refl, sym, ap, _∙_}
+use mathlib.Core.Bool.{Bool, true, false}
+use mathlib.Core.List.{List, [], _∷_, _++_, map}
+use lib.ListN.{length, getD, take, drop, length-drop, drop-of-length-le}
+use lib.Seq.{drop-cons, length-take-le, take-all}
+use borrow.Author.Tests.{eq-eqb, ne-eqb}
+use Rattle.sequences.specs.Stored.{Clipped}
+use Rattle.sequences.proofs.Clips.{clipped-then, Going, going-start, going-step, going-done}
+use Rattle.reading.specs.Texts.{bytes, same}
+use Rattle.reading.specs.Readers.{run}
+use Rattle.reading.specs.Places.{Reaches}
+use Rattle.reading.proofs.Loops.{run-on, run-off}
+use Rattle.reading.proofs.Readers.{run-fits}
+use Rattle.lexis_rules.specs.declared.Class.the-variants.{Visible}
+use Rattle.lexis_rules.specs.Bytes.{inClass}
+use Rattle.explain_rules.specs.declared.Line.{Line}
+use Rattle.explain_rules.specs.declared.Line.the-variants.{Field, Identifier, Version, NoResult, Method, Reason, Property, Other}
+use Rattle.explain_rules.specs.Explained.{inColumn, column, behind, kindOf, kindOfLine, shown, text}
+use Rattle.explain_columns.specs.Until.{except}
+
+-- ==== up to a byte
+
+module _ (b : ℕ) (s : List ℕ) (at i : ℕ) (w : Reaches (run (except b)) s at i) (h : i < length s) where
+  pub until-here : getD s i 0 ≡ b → i ≡ at + run (except b) (drop at s)
+  until-here e = run-off (except b) s at i false w h (let f : except b (getD s i 0) ≡ false = rw (eq-eqb (getD s i 0) b e) in sym f) refl
+
+  pub until-on : (getD s i 0 ≡ b → ⊥) → Reaches (run (except b)) s at (i + 1)
+  until-on e = run-on (except b) s at i true w h (let f : except b (getD s i 0) ≡ true = rw (ne-eqb (getD s i 0) b e) in sym f) refl
+
+-- ==== the first column ends at e
+
+module _ (l : List ℕ) (e : ℕ) (q : e ≡ 0 + run (except 9) (drop 0 l)) where
+  is-end : e ≡ run inColumn l
+  is-end = omega arith
+
+  pub column-long : e ≡ length (take e l)
+  column-long = sym (length-take-le e l (omega (arith, run-fits inColumn l, is-end)))
+
+  pub column-is : take e l ≡ column l
+  column-is = ap (λ (n : ℕ). take n l) is-end
+
+  pub behind-is : take (length l - (e + 1)) (drop (e + 1) l) ≡ behind l
+  behind-is = take-all (length l - (e + 1)) (drop (e + 1) l) (omega (arith, length-drop (e + 1) l)) ∙ rw (add-one e, is-end)
+
+  pub behind-none : length l ≤ e → [] ≡ behind l
+  behind-none h = let z : length l ≤ suc (run inColumn l) = omega (arith, is-end) in sym (drop-of-length-le l z)
+
+-- ==== what a line is
+
+module _ (w : List ℕ) (b₁ : Bool) (e₁ : b₁ ≡ same w (bytes "field")) where
+  pub is-field : b₁ ≡ true → Field ≡ kindOf w
+  unfolding kindOf
+  is-field q = rw (← e₁, q)
+
+  module _ (q₁ : b₁ ≡ false) (b₂ : Bool) (e₂ : b₂ ≡ same w (bytes "id")) where
+    pub is-identifier : b₂ ≡ true → Identifier ≡ kindOf w
+    unfolding kindOf
+    is-identifier q = rw (← e₁, q₁, ← e₂, q)
+
+    module _ (q₂ : b₂ ≡ false) (b₃ : Bool) (e₃ : b₃ ≡ same w (bytes "v")) where
+      pub is-version : b₃ ≡ true → Version ≡ kindOf w
+      unfolding kindOf
+      is-version q = rw (← e₁, q₁, ← e₂, q₂, ← e₃, q)
+
+      module _ (q₃ : b₃ ≡ false) (b₄ : Bool) (e₄ : b₄ ≡ same w (bytes "none")) where
+        pub is-no-result : b₄ ≡ true → NoResult ≡ kindOf w
+        unfolding kindOf
+        is-no-result q = rw (← e₁, q₁, ← e₂, q₂, ← e₃, q₃, ← e₄, q)
+
+        module _ (q₄ : b₄ ≡ false) (b₅ : Bool) (e₅ : b₅ ≡ same w (bytes "m")) where
+          pub is-method : b₅ ≡ true → Method ≡ kindOf w
+          unfolding kindOf
+          is-method q = rw (← e₁, q₁, ← e₂, q₂, ← e₃, q₃, ← e₄, q₄, ← e₅, q)
+
+          module _ (q₅ : b₅ ≡ false) (b₆ : Bool) (e₆ : b₆ ≡ same w (bytes "r")) where
+            pub is-reason : b₆ ≡ true → Reason ≡ kindOf w
+            unfolding kindOf
+            is-reason q = rw (← e₁, q₁, ← e₂, q₂, ← e₃, q₃, ← e₄, q₄, ← e₅, q₅, ← e₆, q)
+
+            module _ (q₆ : b₆ ≡ false) (b₇ : Bool) (e₇ : b₇ ≡ same w (bytes "p")) where
+              pub is-property : b₇ ≡ true → Property ≡ kindOf w
+              unfolding kindOf
+              is-property q = rw (← e₁, q₁, ← e₂, q₂, ← e₃, q₃, ← e₄, q₄, ← e₅, q₅, ← e₆, q₆, ← e₇, q)
+
+              pub is-other : b₇ ≡ false → Other ≡ kindOf w
+              unfolding kindOf
+              is-other q = rw (← e₁, q₁, ← e₂, q₂, ← e₃, q₃, ← e₄, q₄, ← e₅, q₅, ← e₆, q₆, ← e₇, q)
+
+pub kind-line : (l w : List ℕ) → w ≡ column l → (k : Line) → k ≡ kindOf w → k ≡ kindOfLine l
+kind-line l w e k q = q ∙ rw e
+
+-- ==== bytes as a terminal is shown them
+
+module _ (b : ℕ) (r : Bool) (e : r ≡ inClass Visible b) where
+  pub shown-visible : r ≡ true → b ≡ shown b
+  unfolding shown
+  shown-visible q = let t : inClass Visible b ≡ true = sym e ∙ q in rw t
+
+  pub shown-other : r ≡ false → 63 ≡ shown b
+  unfolding shown
+  shown-other q = let t : inClass Visible b ≡ false = sym e ∙ q in rw t
+
+pub shown-start : (old part : List ℕ) (to : ℕ) → to < 2 ^ 64 → Going old to (map shown part) old to (map shown (drop 0 part))
+shown-start old part to h = going-start old to (map shown part) (omega arith)
+
+module _ (old part out : List ℕ) (to n i : ℕ) (g : Going old to (map shown part) out n (map shown (drop i part))) where
+  pub shown-more : length old < 2 ^ 64 → i < length part → (b : ℕ) → b ≡ shown (getD part i 0) → (out′ : List ℕ) (n′ : ℕ) → Clipped out n (b ∷ []) out′ n′
+      → Going old to (map shown part) out′ n′ (map shown (drop (i + 1) part))
+  shown-more l h b e out′ n′ w =
+      going-step (omega arith) g (rw (drop-cons part i 0 h, e, add-one i)) w
+
+  pub shown-done : length part ≤ i → Clipped old to (map shown part) out n
+  shown-done h = going-done g (rw (drop-of-length-le part h))
+
+-- ==== a label and a column
+
+pub labelled-put : (old label l : List ℕ) (to : ℕ) → length old < 2 ^ 64 → (o : List ℕ) (a : ℕ) → Clipped old to label o a → (w : List ℕ) → w ≡ column l
+    → (new : List ℕ) (r : ℕ) → Clipped o a (map shown w) new r → Clipped old to (label ++ text l) new r
+labelled-put old label l to h o a p w e new r q = clipped-then (omega arith) p (rw e at q)

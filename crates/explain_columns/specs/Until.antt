@@ -1,0 +1,7 @@
+-- Any byte but one. Assumes nothing: this is a definition.
+use Prim.Native.Nat.{ℕ}
+use mathlib.Core.Bool.{Bool, not}
+use lib.Dec.{eqb}
+
+abbrev pub except : ℕ → ℕ → Bool
+except b x = not (eqb x b)

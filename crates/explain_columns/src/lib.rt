@@ -1,0 +1,114 @@
+// The columns of a line of the report of a block, what the line is, and texts as a terminal is shown them.
+//
+// `column(l)` is the first column of a line, `behind(l)` what stands behind the tab that ends it, and nothing where there is no tab;
+// `kind_of_line(l)` is what the line is, by its first column; `until(s, at, b)` is the next place of a byte. A writer is handed a buffer and a
+// place in it, any place. It stores as much of its text as there is room for from there on, changes no other byte, and returns the place after
+// the whole text, at most the largest place, which no buffer reaches.
+use explain_rules::Line;
+use lexis_rules::Class;
+ghost use mathlib.Core.Path.{_≡_};
+ghost use mathlib.Core.List.{_++_, map};
+ghost use Prim.Native.Nat.{_+_};
+ghost use lib.ListN.{drop};
+ghost use Rattle.sequences.specs.Stored.{Clipped};
+ghost use Rattle.reading.specs.Readers.{run};
+ghost use Rattle.explain_rules.specs.Explained.{column, behind, kindOf, kindOfLine, shown, text};
+ghost use Rattle.explain_columns.specs.Until.{except};
+
+// The next place from this one on where a byte stands, or the end.
+pub fn until(s: &[u8], at: usize, b: u8) -> usize
+    ensures { λ r. ⌜ r ≡ at + run (except b) (drop at (now (s .entry))) ⌝ }
+{
+    let mut i = at;
+    while i < s.len() {
+        if s[i] == b {
+            return i;
+        }
+        i += 1;
+    }
+    i
+}
+
+// The first column of a line.
+pub fn column(l: &[u8]) -> &[u8]
+    ensures { λ r. ⌜ now r ≡ column (now (l .entry)) ⌝ }
+{
+    &l[..until(l, 0, b'\t')]
+}
+
+// What stands behind it.
+pub fn behind(l: &[u8]) -> &[u8]
+    ensures { λ r. ⌜ now r ≡ behind (now (l .entry)) ⌝ }
+{
+    let e = until(l, 0, b'\t');
+    if e < l.len() {
+        return &l[e + 1..];
+    }
+    &l[..0]
+}
+
+// What a line is, by its first column.
+fn kind_of(w: &[u8]) -> Line
+    ensures { λ r. ⌜ r ≡ kindOf (now (w .entry)) ⌝ }
+{
+    if same_bytes::is_same(w, b"field") {
+        return Line::Field;
+    }
+    if same_bytes::is_same(w, b"id") {
+        return Line::Identifier;
+    }
+    if same_bytes::is_same(w, b"v") {
+        return Line::Version;
+    }
+    if same_bytes::is_same(w, b"none") {
+        return Line::NoResult;
+    }
+    if same_bytes::is_same(w, b"m") {
+        return Line::Method;
+    }
+    if same_bytes::is_same(w, b"r") {
+        return Line::Reason;
+    }
+    if same_bytes::is_same(w, b"p") {
+        return Line::Property;
+    }
+    Line::Other
+}
+
+// What a line is.
+pub fn kind_of_line(l: &[u8]) -> Line
+    ensures { λ r. ⌜ r ≡ kindOfLine (now (l .entry)) ⌝ }
+{
+    kind_of(column(l))
+}
+
+// A byte as a terminal is shown it.
+fn shown(b: u8) -> u8
+    ensures { λ r. ⌜ r ≡ shown b ⌝ }
+{
+    if lexis::in_class(Class::Visible, b) {
+        return b;
+    }
+    b'?'
+}
+
+// A text as a terminal is shown it.
+pub fn put_shown(part: &[u8], out: &mut [u8], to: usize) -> usize
+    ensures { λ r. ⌜ Clipped (now (out .entry)) to (map shown (now (part .entry))) (now (out .exit)) r ⌝ }
+{
+    let mut n = to;
+    let mut i: usize = 0;
+    while i < part.len() {
+        n = texts::put_byte(shown(part[i]), out, n);
+        i += 1;
+    }
+    n
+}
+
+// A label as it is, and the first column of a line as a terminal is shown it.
+pub fn put_labelled(label: &[u8], l: &[u8], out: &mut [u8], to: usize) -> usize
+    ensures { λ r. ⌜ Clipped (now (out .entry)) to (now (label .entry) ++ text (now (l .entry))) (now (out .exit)) r ⌝ }
+{
+    let a = texts::put_part(label, out, to);
+    put_shown(column(l), out, a)
+}

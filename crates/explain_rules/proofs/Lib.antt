@@ -1,0 +1,4 @@
+pub mod Terminal
+pub mod Lengths
+pub mod Headlines
+pub mod Examples

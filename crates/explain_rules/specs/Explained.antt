@@ -1,0 +1,130 @@
+-- What a report says to a person: the lines of the report of a block (reports_rules), in words. Each field has a line that says whose word it is
+-- and what is not shown of it, then one with its identifier, and one for each result with its reason and its properties. No text of a report has
+-- a space, so none can look like a part that it is not. Assumes nothing: these are definitions.
+use Prim.Native.Char.{code}
+use Prim.Native.Nat.{ℕ, suc}
+use mathlib.Core.Bool.{Bool, true, false, cond, not}
+use mathlib.Core.List.{List, [], _∷_, _++_, map}
+use lib.Dec.{eqb}
+use lib.ListN.{take, drop}
+use Rattle.reading.specs.Texts.{bytes, same}
+use Rattle.reading.specs.Readers.{run}
+use Rattle.lexis_rules.specs.declared.Class.the-variants.{Visible}
+use Rattle.lexis_rules.specs.Bytes.{inClass}
+use Rattle.authserv_rules.specs.Spelled.{linesOf}
+use Rattle.explain_rules.specs.declared.Line.{Line}
+use Rattle.explain_rules.specs.declared.Line.the-variants.{Field, Identifier, Version, NoResult, Method, Reason, Property, Other}
+
+-- ==== columns
+
+-- any byte but tab
+abbrev pub inColumn : ℕ → Bool
+inColumn x = not (eqb x (code "\t"))
+
+-- the first column of a line, and what stands behind the tab that ends it
+abbrev pub column : List ℕ → List ℕ
+column l = take (run inColumn l) l
+
+abbrev pub behind : List ℕ → List ℕ
+behind l = drop (suc (run inColumn l)) l
+
+-- what a line is, by its first column
+unfoldable pub kindOf : List ℕ → Line
+kindOf w =
+    cond (same w (bytes "field")) Field
+    (cond (same w (bytes "id")) Identifier
+    (cond (same w (bytes "v")) Version
+    (cond (same w (bytes "none")) NoResult
+    (cond (same w (bytes "m")) Method
+    (cond (same w (bytes "r")) Reason
+    (cond (same w (bytes "p")) Property Other))))))
+
+-- ==== texts
+
+-- a terminal is shown bytes 33 to 126 as they are; a report has no others, and any other is shown as "?"
+unfoldable pub shown : ℕ → ℕ
+shown x = cond (inClass Visible x) x (code "?")
+
+abbrev pub text : List ℕ → List ℕ
+text l = map shown (column l)
+
+-- ==== what is said of a field
+
+-- whose word it is, and what stripping does with it
+unfoldable pub whoseWords : List ℕ → List ℕ
+whoseWords w =
+    cond (same w (bytes "own")) (bytes "in our own name: strip removes it")
+    (cond (same w (bytes "other")) (bytes "another's word: strip keeps it")
+    (bytes "its identifier can't be read: strip removes it"))
+
+-- by the number of its answer: a newer header version, or a body that is not well-formed
+unfoldable pub answerWords : List ℕ → List ℕ
+answerWords w =
+    cond (same w (bytes "8")) (bytes "; of a newer version: what it says is not read")
+    (cond (same w (bytes "9")) (bytes "; not well-formed: nothing of it is shown") [])
+
+-- how many results are not shown, and why
+unfoldable pub countWords : List ℕ → List ℕ
+countWords w =
+    cond (same w (bytes "0")) []
+    (bytes "; " ++ (map shown w ++ (cond (same w (bytes "1")) (bytes " result") (bytes " results") ++ bytes " of a newer version or not known: not shown")))
+
+-- the columns behind `field`: its number, whose it is, its answer and how many results are ignored
+unfoldable pub fieldWords : List ℕ → List ℕ
+fieldWords l =
+    bytes "Field " ++ (text l ++ (bytes ": " ++ (whoseWords (column (behind l))
+    ++ (answerWords (column (behind (behind l))) ++ countWords (column (behind (behind (behind l))))))))
+
+-- ==== what is said of its report
+
+-- method and result
+unfoldable pub methodWords : List ℕ → List ℕ
+methodWords l = bytes "  " ++ (text l ++ (bytes ": " ++ text (behind l)))
+
+-- ptype, property, and behind the letter of its kind the text
+unfoldable pub propertyWords : List ℕ → List ℕ
+propertyWords l = bytes ", " ++ (text l ++ (bytes "." ++ (text (behind l) ++ (bytes ": " ++ text (behind (behind (behind l)))))))
+
+-- a line that is of this kind, by what stands behind its first column
+unfoldable pub words : Line → List ℕ → List ℕ
+words Field l = fieldWords l
+words Identifier l = bytes "  checked by " ++ text l
+words Version l = bytes "  header version " ++ text l
+words NoResult l = bytes "  no results"
+words Method l = methodWords l
+words Reason l = bytes ", reason: " ++ text l
+words Property l = propertyWords l
+words Other l = []
+
+abbrev pub kindOfLine : List ℕ → Line
+kindOfLine l = kindOf (column l)
+
+abbrev pub lineWords : List ℕ → List ℕ
+lineWords l = words (kindOfLine l) (behind l)
+
+-- ==== the whole text
+
+-- a reason and a property stand in the line of their result
+unfoldable pub goesOn : Line → Bool
+goesOn Field = false
+goesOn Identifier = false
+goesOn Version = false
+goesOn NoResult = false
+goesOn Method = false
+goesOn Reason = true
+goesOn Property = true
+goesOn Other = false
+
+-- the end of what was said, by the lines behind it
+unfoldable pub ended : List (List ℕ) → List ℕ
+ended [] = code "\n" ∷ []
+ended (l ∷ ls) = cond (goesOn (kindOfLine l)) [] (code "\n" ∷ [])
+
+unfoldable pub linesWords : List (List ℕ) → List ℕ
+linesWords [] = []
+linesWords (l ∷ ls) = lineWords l ++ (ended ls ++ linesWords ls)
+
+-- a block without such a field has no lines
+unfoldable pub explained : List ℕ → List ℕ
+explained [] = bytes "There is no Authentication-Results field.\n"
+explained (x ∷ xs) = linesWords (linesOf (x ∷ xs))
