@@ -1,0 +1,21 @@
+-- `judging::put_columns` meets its contract: the two parts are the whole line. Assumes nothing.
+use Rattle.judging.proofs.Words.{columns-put}
+use borrow.Author.Needs.{needs}
+use Rattle.judging.proofs.put_columns.Statement.{statement}
+use Rattle.judging.proofs.put_columns.Tie as tie
+
+put-outcomes-requires : tie.Need-put-outcomes-requires
+put-outcomes-requires c κs = search needs
+
+put-verdicts-requires : tie.Need-put-verdicts-requires
+put-verdicts-requires c κs = search needs
+
+same-length : tie.Need-same-length
+same-length c = search needs
+
+returns : tie.Need-returns
+returns c = search columns-put
+
+pub put-columns-spec : {M : Type 1} → statement M
+put-columns-spec =
+    tie.close (tie.spec put-outcomes-requires put-verdicts-requires same-length returns)

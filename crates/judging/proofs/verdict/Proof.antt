@@ -1,0 +1,16 @@
+-- `judging::verdict` meets its contract: each test is one of the definition. Assumes nothing.
+use Rattle.judging.proofs.Words.{verdict-below, verdict-above, verdict-digit}
+use Rattle.judging.proofs.verdict.Statement.{statement}
+use Rattle.judging.proofs.verdict.Tie as tie
+
+returns : tie.Need-returns
+returns c = search verdict-below
+
+returns-2 : tie.Need-returns-2
+returns-2 c = search verdict-above
+
+returns-3 : tie.Need-returns-3
+returns-3 c = search verdict-digit
+
+pub verdict-spec : {M : Type 1} → statement M
+verdict-spec = tie.close (tie.spec returns returns-2 returns-3)
