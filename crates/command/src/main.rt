@@ -2,7 +2,7 @@
 // or in none; `command report LIST` writes what each Authentication-Results field of it says. LIST is a file with our own identifiers, one to
 // a line. `command write` writes the body of a field of our own from the report lines on standard input.
 //
-// Each is reading, one call (`strip::strip`, `reports::reports`, `writing::write`) and writing what it gave. A body is written as it is, with no
+// Each is reading, one call (`strip::strip`, `reports::reports`, `writing::write`) and writing what it gave (`subcommands`). A body is written as it is, with no
 // name before it and no CRLF after it. A refusal writes nothing to standard output. One line on standard error says how
 // it ended (`endings`): with the numbers of 01 and 02, or 64 for wrong usage, 66 for a list that can't be opened or read, 70 for a failure
 // of the program, 74 for an input that can't be read, or not whole, or an output that can't be written; 0 only where all of the output has been
@@ -11,28 +11,6 @@ use libc::STDIN_FILENO;
 use messages_rules::Asked;
 use messages_rules::Ending;
 use transfer::Opened;
-
-// Strips a block and writes what is kept.
-fn strip_block(block: &[u8], list: &[u8]) {
-    let mut out = buffers::block();
-    let r = strip::strip(block, list, &mut out);
-    let refusal = Ending::Refused {
-        number: r.number,
-        place: r.place,
-    };
-    endings::end(endings::outcome(r.number, refusal, &out, r.kept), list);
-}
-
-// Reports a block.
-fn report_block(block: &[u8], list: &[u8]) {
-    let mut out = buffers::reports();
-    let r = reports::reports(block, list, &mut out);
-    let refusal = Ending::Refused {
-        number: r.number,
-        place: r.place,
-    };
-    endings::end(endings::outcome(r.number, refusal, &out, r.written), list);
-}
 
 // Reads the list and the block, and does what is asked.
 fn run(list_file: i32, strips: bool) {
@@ -50,10 +28,12 @@ fn run(list_file: i32, strips: bool) {
     }
     let m = entries.length;
     let n = fields.length;
-    if strips {
-        return strip_block(&block[..n], &list[..m]);
-    }
-    report_block(&block[..n], &list[..m]);
+    let ending = if strips {
+        subcommands::strip_block(&block[..n], &list[..m])
+    } else {
+        subcommands::report_block(&block[..n], &list[..m])
+    };
+    endings::end(ending, &list[..m]);
 }
 
 // Opens the list that the second argument names.
@@ -71,17 +51,6 @@ fn with_list(strips: bool) {
     }
 }
 
-// Writes the body that has these lines as its report.
-fn write_body(lines: &[u8]) {
-    let mut out = buffers::block();
-    let r = writing::write(lines, &mut out);
-    let refusal = Ending::LinesRefused {
-        number: r.number,
-        place: r.place,
-    };
-    endings::end(endings::outcome(r.number, refusal, &out, r.written), b"");
-}
-
 // Reads report lines, and writes their body where there are no more of them than were read.
 fn with_lines() {
     let mut lines = buffers::lines();
@@ -95,7 +64,7 @@ fn with_lines() {
         endings::end(Ending::InputTooLong, b"");
         return;
     }
-    write_body(&lines[..n]);
+    endings::end(subcommands::write_body(&lines[..n]), b"");
 }
 
 // Does what the words ask for. One that is too long for the buffer asks for nothing.

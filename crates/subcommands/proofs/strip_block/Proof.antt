@@ -1,0 +1,40 @@
+-- The outcome of what the call answered. Assumes nothing.
+use Prim.Native.Nat.{ℕ}
+use Rattle.strip_rules.specs.Strip.{strip}
+use Rattle.strip_rules.specs.Answers.{answerOf}
+use Rattle.subcommands.specs.Ends.{StripEnds}
+use Rattle.subcommands.proofs.Rooms.{ends-so}
+use borrow.Author.Needs.{needs}
+use Rattle.subcommands.proofs.strip_block.Statement.{statement}
+use Rattle.subcommands.proofs.strip_block.Tie as tie
+
+block-requires : tie.Need-block-requires
+block-requires c κs = search needs
+
+slice-aggregate-strip : tie.Need-slice-aggregate-strip
+slice-aggregate-strip c = search needs
+
+strip-requires : tie.Need-strip-requires
+strip-requires c κs = search needs
+
+slice-aggregate-outcome : tie.Need-slice-aggregate-outcome
+slice-aggregate-outcome c = search needs
+
+outcome-requires : tie.Need-outcome-requires
+outcome-requires c κs = search needs
+
+returns : tie.Need-returns
+returns c =
+    let body = c .before .before .before .before .before .before .before .before .args in
+    ends-so StripEnds (λ (k : ℕ). answerOf (strip (body .block .now) (body .list .now) k)) 65537 _ _ (c .before .before .before .strip .result) _ (slice-aggregate-strip (c .before .before .before .before)) (slice-aggregate-outcome (c .before)) (c .before .before .before .strip .ensures .0) (c .outcome .ensures)
+
+pub strip-block-spec : {M : Type 1} → statement M
+strip-block-spec =
+    tie.close
+    (tie.spec
+    block-requires
+    slice-aggregate-strip
+    strip-requires
+    slice-aggregate-outcome
+    outcome-requires
+    returns)
