@@ -10,7 +10,8 @@ use Rattle.reading.specs.Parsers.{nothing, got, _>>=_, _>>_, text, optional}
 use Rattle.reading.specs.Places.{from}
 use Rattle.reading.proofs.Places.{goes-on, stops, gives, text-at, text-none, pass-at, pass-none, one-more, none-there}
 use Rattle.lexis_rules.specs.declared.Digits.{Digits}
-use Rattle.lexis_rules.specs.Pieces.{space, digits, leading, isOne}
+use Rattle.lexis_rules.specs.Pieces.{space, digits, leading}
+use Rattle.lexis_rules.specs.Numbers.{numberOf}
 use Rattle.lexis_rules.specs.Words.{counted, gap, readDigits}
 use Rattle.lexis_rules.specs.Answers.{digitsAt}
 use Rattle.lexis_rules.proofs.Numbers.{counted-text}
@@ -42,11 +43,11 @@ module _ (s : List ℕ) (at a : ℕ) (q : a ≡ at + space (drop at s)) where
     unfolding versionFrom
     version-no-digits z = let n : digits (drop a s) ≡ 0 = omega (arith, ends) in sym (version-is ne ∙ rw (versionFrom, n))
 
-    pub version-stated : (d .end ≡ a → ⊥) → Stated (d .start) (d .end) (d .one) ≡ versionAt s at
+    pub version-stated : (d .end ≡ a → ⊥) → Stated (d .start) (d .end) (d .number) ≡ versionAt s at
     unfolding versionFrom digitsAt
     version-stated nd = go (digits (drop a s)) refl
       where
-        go : (n : ℕ) → digits (drop a s) ≡ n → Stated (d .start) (d .end) (d .one) ≡ versionAt s at
+        go : (n : ℕ) → digits (drop a s) ≡ n → Stated (d .start) (d .end) (d .number) ≡ versionAt s at
         go zero z = absurd (nd (omega (arith, ends)))
         go (suc n) z = rw (h, z) (sym (version-is ne ∙ rw (versionFrom, z)))
 
@@ -73,7 +74,7 @@ module _ (s : List ℕ) (at : ℕ) where
           let b = a + leading (drop a s) in
           let j : e - a ≡ suc n = omega arith in
           let k : e - b ≡ digits (drop a s) - leading (drop a s) = omega arith in
-          let v : versionAt s at ≡ Stated b e (isOne (drop a s)) = version-is s at a (omega arith) (λ i. omega arith) ∙ (unfold versionFrom in rw (versionFrom, d)) in
+          let v : versionAt s at ≡ Stated b e (numberOf (drop a s)) = version-is s at a (omega arith) (λ i. omega arith) ∙ (unfold versionFrom in rw (versionFrom, d)) in
           let t : counted (take (e - a) (drop a s)) ≡ take (e - b) (drop b s) = rw (j, k) (counted-text (drop a s) n d ∙ rw drop-drop) in
           let r : got (counted (take (e - a) (drop a s))) e ≡ from readDigits s a =
           goes-on (text digits) _ s a (take (e - a) (drop a s)) e _ (text-at digits s a e (omega arith) (λ i. omega arith)) (gives (counted (take (e - a) (drop a s))) s e) in

@@ -10,7 +10,8 @@ use Rattle.reading.specs.Texts.{follows}
 use Rattle.reading.specs.Parsers.{Got, nothing, got}
 use Rattle.lexis_rules.specs.declared.Class.the-variants.{Delimiter}
 use Rattle.lexis_rules.specs.Bytes.{inClass}
-use Rattle.lexis_rules.specs.Pieces.{space, quoted, digits, leading, isOne}
+use Rattle.lexis_rules.specs.Pieces.{space, quoted, digits, leading}
+use Rattle.lexis_rules.specs.Numbers.{numberOf}
 use Rattle.lexis_rules.specs.Words.{quotedText}
 use Rattle.authserv.specs.declared.Identifier.{Identifier}
 use Rattle.authserv.specs.declared.Identifier.the-variants.{Readable, Unreadable}
@@ -51,12 +52,12 @@ identifierGot s Unreadable = nothing
 
 -- ==== the header version
 
--- the digits that count, the place after them, and whether the number is 1
+-- the digits that count, the place after them, and the number
 unfoldable pub versionFrom : List ℕ → ℕ → Version
 versionFrom s a =
     elim (digits (drop a s)) [
       | zero ↦ Absent
-      | suc n ↦ Stated (a + leading (drop a s)) (a + suc n) (isOne (drop a s))
+      | suc n ↦ Stated (a + leading (drop a s)) (a + suc n) (numberOf (drop a s))
     ]
 
 unfoldable pub versionAt : List ℕ → ℕ → Version
@@ -64,5 +65,5 @@ versionAt s at = elim (space (drop at s)) [ zero ↦ Absent | suc n ↦ versionF
 
 -- the digits that count of a version that is stated, and the place after it; nothing is taken where it is absent
 abbrev pub versionGot : List ℕ → ℕ → Version → Got (Option (List ℕ))
-versionGot s at (Stated a e o) = got (some (take (e - a) (drop a s))) e
+versionGot s at (Stated a e v) = got (some (take (e - a) (drop a s))) e
 versionGot s at Absent = got none at

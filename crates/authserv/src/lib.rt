@@ -3,6 +3,7 @@
 // Where the identifier can't be read nothing further is tried: that is number 7 where a report is asked for, and the field goes where a
 // block is stripped.
 use lexis_rules::Class;
+use lexis_rules::VersionNumber;
 ghost use mathlib.Core.Path.{_≡_};
 ghost use Prim.Native.Nat.{_+_};
 ghost use lib.ListN.{drop};
@@ -95,10 +96,14 @@ pub fn identify(body: &[u8]) -> Identifier
     readable(body, a, identifier_token_end(body, a), false)
 }
 
-// The header version: the digits that count from `start` up to `end`, and whether their number is 1. Absent means 1.
+// The header version: the digits that count from `start` up to `end`, and their number. Absent means 1.
 pub enum Version {
     Absent,
-    Stated { start: usize, end: usize, one: bool },
+    Stated {
+        start: usize,
+        end: usize,
+        number: VersionNumber,
+    },
 }
 
 // The header version behind an identifier that ends at a place.
@@ -113,9 +118,10 @@ pub fn version_at(s: &[u8], at: usize) -> Version
     if d.end == a {
         return Version::Absent;
     }
+    let number = d.number;
     Version::Stated {
         start: d.start,
         end: d.end,
-        one: d.one,
+        number,
     }
 }

@@ -17,14 +17,14 @@ use Rattle.authserv_rules.specs.Utf8.{lead, second, further, sequence}
 use Rattle.authserv_rules.specs.OwnList.{entryItem, entry, entryAt, ownList}
 use Rattle.authserv_rules.specs.declared.Own.the-variants.{Ours, Others}
 use Rattle.authserv_rules.specs.Identifier.{identifierByte, identifier, sameIdentifier}
-use Rattle.authserv_rules.specs.Version.{stated}
+use Rattle.authserv_rules.specs.Version.{stated, headerVersion}
 use Rattle.authserv_rules.specs.Listed.{among, ownOf}
 use Rattle.authserv_rules.specs.Spelled.{lined, linesOf, amongLines, amongSpelled, ownOfSpelled}
 
 unfoldable pub opened : Unit {0}
 unfolding within oneOf same follows run many choose between passing lasts after _>>=_ give when ahead skipping text pass optional walk inClass letter
     lower alike pair fold item comment leading decimal quotedText valueText counted readDigits spellings.opened lead second further sequence
-    entryItem entry entryAt identifierByte identifier sameIdentifier stated among lined linesOf amongLines amongSpelled
+    entryItem entry entryAt identifierByte identifier sameIdentifier stated headerVersion among lined linesOf amongLines amongSpelled
 opened = tt
 
 -- 01, Samples on each side, and what was decided where it leaves a choice
@@ -79,6 +79,11 @@ versions :
     ∷ [])
 unfolding opened
 versions = refl
+
+-- 01, Identifier and header version: absent means 1
+headerVersions : map headerVersion (none ∷ some (bytes "2") ∷ []) ≡ bytes "1" ∷ bytes "2" ∷ []
+unfolding opened
+headerVersions = refl
 
 -- 01, Identifier and header version: equal but for ASCII case
 equals : Says (sameIdentifier (bytes "Example.COM")) (case (bytes "example.com") true ∷ case (bytes "example.net") false ∷ case (bytes "example.com.") false ∷ [])

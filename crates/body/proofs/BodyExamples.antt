@@ -7,6 +7,8 @@ use mathlib.Core.Option.{none}
 use Rattle.reading.specs.Texts.{bytes}
 use Rattle.reading.specs.Parsers.{nothing, got}
 use Rattle.reading.proofs.Cases.{case, Says}
+use Rattle.lexis_rules.specs.declared.VersionNumber.{VersionNumber}
+use Rattle.lexis_rules.specs.declared.VersionNumber.the-variants.{Exact}
 use Rattle.resinfo_rules.specs.Results.{Result}
 use Rattle.body.specs.Body.{Head, unreadable, malformed, newer, noResult, results, head, reading}
 use Rattle.body.proofs.Opened.{opened}
@@ -79,16 +81,16 @@ nones = refl
 
 -- ==== results
 
-abbrev plain : List ℕ → List ℕ → List ℕ → Result
+abbrev plain : List ℕ → VersionNumber → List ℕ → Result
 plain m v r = record { methodspec = record { method = m; version = v; result = r }; reason = none; properties = [] }
 
 -- 01, Results: one or more results, with space allowed between parts, and the end
 several-results :
     Says reading
-    (case (bytes "a;b=c") (results (bytes "a") (plain (bytes "b") (bytes "1") (bytes "c") ∷ []))
-    ∷ case (bytes "a ;b=c (x);d/2=e ") (results (bytes "a") (plain (bytes "b") (bytes "1") (bytes "c") ∷ plain (bytes "d") (bytes "2") (bytes "e") ∷ []))
-    ∷ case (bytes "a;none=c") (results (bytes "a") (plain (bytes "none") (bytes "1") (bytes "c") ∷ []))
-    ∷ case (bytes "a;none / 1=c") (results (bytes "a") (plain (bytes "none") (bytes "1") (bytes "c") ∷ []))
+    (case (bytes "a;b=c") (results (bytes "a") (plain (bytes "b") (Exact 1) (bytes "c") ∷ []))
+    ∷ case (bytes "a ;b=c (x);d/2=e ") (results (bytes "a") (plain (bytes "b") (Exact 1) (bytes "c") ∷ plain (bytes "d") (Exact 2) (bytes "e") ∷ []))
+    ∷ case (bytes "a;none=c") (results (bytes "a") (plain (bytes "none") (Exact 1) (bytes "c") ∷ []))
+    ∷ case (bytes "a;none / 1=c") (results (bytes "a") (plain (bytes "none") (Exact 1) (bytes "c") ∷ []))
     ∷ [])
 unfolding opened
 several-results = refl

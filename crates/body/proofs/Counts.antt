@@ -10,7 +10,8 @@ use Rattle.reading.specs.Parsers.{Got, nothing, got, several}
 use Rattle.reading.proofs.Bounds.{end-within}
 use Rattle.lexis_rules.specs.declared.Class.the-variants.{Delimiter}
 use Rattle.lexis_rules.specs.Bytes.{inClass}
-use Rattle.resinfo_rules.specs.Results.{Result, one}
+use Rattle.lexis_rules.specs.Numbers.{numberOf, isOne}
+use Rattle.resinfo_rules.specs.Results.{Result}
 use Rattle.resinfo_rules.specs.Table.{understood}
 use Rattle.body.specs.Body.{Head, head, resinfo, resinfos, payload, headed, reading}
 use Rattle.body.specs.Report.{ignoredOf}
@@ -47,9 +48,9 @@ payload-count i xs = go (payload-cases i xs)
 
 headed-count : (h : Head) (xs : List ℕ) → countOf (headed h xs) ≤ 3 * length xs
 unfolding headed
-headed-count h xs = go (follows (inClass Delimiter) xs) (same (h .version) one) refl refl
+headed-count h xs = go (follows (inClass Delimiter) xs) (isOne (numberOf (h .version))) refl refl
   where
-    go : (f v : Bool) → follows (inClass Delimiter) xs ≡ f → same (h .version) one ≡ v → countOf (headed h xs) ≤ 3 * length xs
+    go : (f v : Bool) → follows (inClass Delimiter) xs ≡ f → isOne (numberOf (h .version)) ≡ v → countOf (headed h xs) ≤ 3 * length xs
     go false v d e = rw (headed, d) (omega arith)
     go true true d e = rw (headed, d, e) (payload-count (h .identifier) xs)
     go true false d e = rw (headed, d, e) (omega arith)

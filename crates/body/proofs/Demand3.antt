@@ -8,12 +8,16 @@ use mathlib.Core.List.{List, [], _∷_, List·Memᴰ, map}
 use lib.Dec.{lit≤}
 use lib.ListN.{length, take}
 use Rattle.reading.specs.Texts.{bytes}
-use Rattle.resinfo_rules.specs.Results.{Result, one}
+use Rattle.lexis_rules.specs.declared.VersionNumber.the-variants.{Exact}
+use Rattle.lexis_rules.specs.Numbers.{numberOf, one}
+use Rattle.lexis_rules.proofs.VersionNumbers.{one-digits}
+use Rattle.resinfo_rules.specs.Results.{Result}
 use Rattle.body.specs.Body.{reading}
 use Rattle.body.specs.Report.{Answer, answer, report}
 use Rattle.body.specs.Newer.{Names, WithinLimit, WellFormed, resultsOf, IsResult, OneMore}
 use Rattle.body.specs.Beside.{insertionPlaces, insertAt}
 use Rattle.body.proofs.Opened.{opened}
+use Rattle.body.proofs.Heads.{Run, naming-run}
 use Rattle.body.proofs.Readings.{report-is, newer-same}
 use Rattle.body.proofs.Ignored.{newer-ignored, insertAt-length, ignored-inserted, places-four}
 
@@ -21,10 +25,17 @@ use Rattle.body.proofs.Ignored.{newer-ignored, insertAt-length, ignored
 
 -- two fields that name the same header version, not 1, and have the same bytes up to the end of that number get the same answer, whatever
 -- follows, for every room
-pub newer-header : (b c v : List ℕ) (n m : ℕ) → Names b v n → Names c v m → (v ≡ one → ⊥) → take n b ≡ take m c → WithinLimit b → WithinLimit c
+pub newer-header : (b c v : List ℕ) (n m : ℕ) → Names b v n → Names c v m → (numberOf v ≡ one → ⊥) → take n b ≡ take m c → WithinLimit b → WithinLimit c
     → (room : ℕ) → report b room ≡ report c room
 newer-header b c v n m B C ne s l k room =
     report-is b room l ∙ (ap (answer room) (newer-same b c _ _ n m (B .reads) (C .reads) ne s) ∙ sym (report-is c room k))
+
+-- the same in the words before ticket [3]: the digits are not the one byte "1"
+pub newer-header-digits : (b c v : List ℕ) (n m : ℕ) → Names b v n → Names c v m → (v ≡ bytes "1" → ⊥) → take n b ≡ take m c → WithinLimit b → WithinLimit c
+    → (room : ℕ) → report b room ≡ report c room
+newer-header-digits b c v n m B C ne s l k room =
+    let r = naming-run b (record { identifier = B .identifier; version = v }) n (B .reads) in
+    newer-header b c v n m B C (λ e. ne (sym (r .is) ∙ one-digits (r .run) (ap numberOf (r .is) ∙ e))) s l k room
 
 -- ==== method versions
 
@@ -40,8 +51,8 @@ four-places = places-four
 
 -- ==== an instance of each
 
-pub two-not-one : bytes "2" ≡ one → ⊥
-two-not-one e = let z : _≡_ {A = ℕ} 50 49 = cc in omega arith
+pub two-not-one : Exact 2 ≡ one → ⊥
+two-not-one e = let z : _≡_ {A = ℕ} 2 1 = cc in omega arith
 
 -- whatever a newer writer puts behind its number
 header-instance : (room : ℕ) → report (bytes "a(b) 002;;\\ what ever") room ≡ report (bytes "a(b) 002") room

@@ -23,13 +23,12 @@ use Rattle.reading.proofs.Steadiness.{steady-weaker, bind-steady, then-steady, 
 use Rattle.lexis_rules.specs.declared.Class.the-variants.{Delimiter, Digit}
 use Rattle.lexis_rules.specs.Bytes.{inClass}
 use Rattle.lexis_rules.specs.Pieces.{space, quoted, digits}
-use Rattle.lexis_rules.specs.Words.{valueText, skip, gap, readDigits}
+use Rattle.lexis_rules.specs.Words.{valueText, skip, gap, counted, readDigits}
 use Rattle.lexis_rules.proofs.Pieces.{quoted-fits}
 use Rattle.lexis_rules.proofs.Locality.{quoted-local}
 use Rattle.lexis_rules.proofs.Steadiness.{skip-within, skip-steady, gap-within, gap-steady, digits-within, digits-opens, digits-steady}
 use Rattle.authserv_rules.specs.Identifier.{identifierByte, identifierToken, identifierValue, identifier}
-use Rattle.authserv_rules.specs.Version.{stated}
-use Rattle.resinfo_rules.specs.Results.{orOne}
+use Rattle.authserv_rules.specs.Version.{stated, headerVersion}
 use Rattle.resinfo_rules.proofs.Opened as resinfo
 use Rattle.resinfo_rules.proofs.Following.{Delimited, Closed, solid, delimited-ends, gap-delimited, closed-delimited, closed-gap}
 use Rattle.body.specs.Body.{Head, head}
@@ -136,7 +135,7 @@ closed-stated t g = closed-gap readDigits (inClass Digit) no-digit digits-opens 
 -- ==== head
 
 abbrev headIs : List ℕ → Option (List ℕ) → Head
-headIs i v = record { identifier = i; version = orOne v }
+headIs i v = record { identifier = i; version = headerVersion v }
 
 -- from the header version on
 abbrev Versioned : List ℕ → Parser Head
@@ -182,7 +181,7 @@ naming-steady =
 
 -- it is in the head, and the end or a delimiter follows
 pub naming-head : (xs : List ℕ) (h : Head) (n : ℕ) → naming xs ≡ got h n → (head xs ≡ got h n) × Delimited (drop n xs)
-unfolding naming head orOne
+unfolding naming head headerVersion
 naming-head xs h n e =
     let v = bind-inv identifier Naming xs h n e in
     let i = v .val in
@@ -199,3 +198,29 @@ naming-head xs h n e =
     bind-got (optional stated) (λ v. give (headIs i v)) ys (some (w .val)) (w .fst) a 0 (optional-some stated ys (w .val) (w .fst) (w .reads)) (give-is a zs) in
     let l : v .fst + (w .fst + 0) ≡ n = omega (arith, v .sum) in
     (bind-got identifier Versioned xs i (v .fst) a (w .fst + 0) (v .reads) f ∙ rw (c, l), rw d (then-delimited a zs h (w .snd) (w .goes)))
+
+-- the digits of a header version are those that count of a run
+pub record Run (v : List ℕ) : Type 0 where
+  pub run : List ℕ
+  pub is : counted run ≡ v
+
+stated-run : (xs v : List ℕ) (n : ℕ) → stated xs ≡ got v n → Run v
+unfolding stated readDigits
+stated-run xs v n e =
+    let g = bind-inv gap (λ u. readDigits) xs v n e in
+    let d = bind-inv (text digits) (λ d. give (counted d)) (drop (g .fst) xs) v (g .snd) (g .goes) in
+    record { run = d .val; is = give-inv (counted (d .val)) (drop (d .fst) (drop (g .fst) xs)) v (d .snd) (d .goes) .0 }
+
+pub naming-run : (xs : List ℕ) (h : Head) (n : ℕ) → naming xs ≡ got h n → Run (h .version)
+unfolding naming
+naming-run xs h n e =
+    let v = bind-inv identifier Naming xs h n e in
+    let i = v .val in
+    let ys = drop (v .fst) xs in
+    let w = bind-inv stated (λ v. Then (namedHead i v)) ys h (v .snd) (v .goes) in
+    let zs = drop (w .fst) ys in
+    let a = namedHead i (w .val) in
+    let t = bind-inv (ahead (inClass Delimiter)) (λ u. give a) zs h (w .snd) (w .goes) in
+    let c : a ≡ h = give-inv a (drop (t .fst) zs) h (t .snd) (t .goes) .0 in
+    let r = stated-run ys (w .val) (w .fst) (w .reads) in
+    record { run = r .run; is = r .is ∙ ap (λ (k : Head). k .version) c }

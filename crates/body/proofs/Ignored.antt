@@ -11,7 +11,9 @@ use lib.Seq.{drop-append-seam, drop-drop, take-add, length-take-le}
 use Rattle.sequences.proofs.Booleans.{no-true}
 use Rattle.reading.specs.Parsers.{got}
 use Rattle.reading.proofs.Steadiness.{steady-exact}
-use Rattle.resinfo_rules.specs.Results.{Result, one}
+use Rattle.lexis_rules.specs.Numbers.{one}
+use Rattle.lexis_rules.proofs.VersionNumbers.{not-one}
+use Rattle.resinfo_rules.specs.Results.{Result}
 use Rattle.resinfo_rules.specs.Table.{knownVersion, knownMethod, understood}
 use Rattle.resinfo_rules.proofs.Following.{Closed, closed-delimited}
 use Rattle.body.specs.Body.{results, head, resinfos, payload, reading}
@@ -19,7 +21,7 @@ use Rattle.body.specs.Report.{idLine, lines, ignoredOf, refusal, fitted,
 use Rattle.body.specs.Newer.{WellFormed, resultsOf, IsResult, WithinLimit, OneMore}
 use Rattle.body.specs.Beside.{insertionPlaces, insertAt}
 use Rattle.body.proofs.Heads.{head-within, head-steady}
-use Rattle.body.proofs.Readings.{report-is, same-not, reading-is, headed-is, payload-is, Sound, well-formed-inv, Payload, neither, word, some, payload-cases}
+use Rattle.body.proofs.Readings.{report-is, reading-is, headed-is, payload-is, Sound, well-formed-inv, Payload, neither, word, some, payload-cases}
 use Rattle.body.proofs.Sequence.{Reads, reads-closed, reads-inv, reads-is}
 use Rattle.body.proofs.Cuts.{Put, put}
 use Rattle.body.proofs.Places.{Split, Found, places-found, word-places, places-count}
@@ -40,7 +42,7 @@ module _ (a : Result) (U : understood a ≡ false) where
 -- a result whose method version isn't 1 is ignored
 pub newer-ignored : (a : Result) → (a .methodspec .version ≡ one → ⊥) → understood a ≡ false
 unfolding understood knownMethod knownVersion
-newer-ignored a ne = rw (same-not (a .methodspec .version) one ne)
+newer-ignored a ne = rw (not-one (a .methodspec .version) ne)
 
 -- the same lines, with one more ignored
 fitted-more : (room : ℕ) (out : List ℕ) (k : ℕ) → OneMore (fitted room 0 out (suc k)) (fitted room 0 out k)

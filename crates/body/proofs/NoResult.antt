@@ -10,7 +10,7 @@ use Rattle.reading.specs.Texts.{bytes, same, starts}
 use Rattle.reading.specs.Parsers.{nothing, got, Parser, _>>=_, _>>_, when, end, byte, optional}
 use Rattle.reading.proofs.Sequencing.{bind-none, bind-stuck, bind-inv, when-inv, end-inv, byte-not, skipping-is, skipping-inv, optional-none}
 use Rattle.lexis_rules.specs.Pieces.{space}
-use Rattle.lexis_rules.specs.Words.{skip, readKeyword, readWord, readDigits}
+use Rattle.lexis_rules.specs.Words.{skip, readKeyword, readWord, readNumber}
 use Rattle.resinfo_rules.specs.Results.{mark, methodVersion, methodspec, result}
 use Rattle.body.specs.Body.{resinfo, wordNone}
 use Rattle.body.proofs.Sequence.{resinfo-not}
@@ -27,7 +27,7 @@ methodspec-over : (xs k : List ℕ) (n : ℕ) → readKeyword xs ≡ got k n →
 unfolding methodspec methodVersion
 methodspec-over xs k n e z =
     let ys = drop n xs in
-    let v : methodVersion ys ≡ nothing = bind-none (mark 47) (λ u. readDigits) ys (mark-over 47 ys z) in
+    let v : methodVersion ys ≡ nothing = bind-none (mark 47) (λ u. readNumber) ys (mark-over 47 ys z) in
     bind-stuck readKeyword _ xs k n e (bind-stuck (optional methodVersion) _ ys none 0 (optional-none methodVersion ys v) (bind-none (mark 61) _ ys (mark-over 61 ys z)))
 
 -- ==== the word none

@@ -1,7 +1,8 @@
 -- Every definition of a whole body and its report opened at once: `unfolding opened` lets a proof compute with all of them.
 -- Assumes nothing.
+use Rattle.lexis_rules.specs.Words.{readDigits}
 use Rattle.authserv_rules.specs.Identifier.{identifierByte, identifier}
-use Rattle.authserv_rules.specs.Version.{stated}
+use Rattle.authserv_rules.specs.Version.{stated, headerVersion}
 use Rattle.resinfo_rules.proofs.Opened as resinfo
 use Rattle.body.specs.Body as body
 use Rattle.body.specs.Report.{plain, escape, line, idLine, versionLine, noneLine, methodLine, reasonLine, letterOf, propertyLine, propertyLines, resultLines, lines, ignoredOf, refusal, fitted, answer, report}
@@ -9,7 +10,7 @@ use Rattle.body.specs.Newer.{naming}
 use Rattle.body.specs.Beside.{sized, extent, placesAround, insertionPlaces, insertAt}
 
 unfoldable pub opened : Unit {0}
-unfolding resinfo.opened identifierByte identifier stated body.head body.resinfo body.resinfos body.wordNone body.payload body.headed body.reading
+unfolding resinfo.opened readDigits identifierByte identifier stated headerVersion body.head body.resinfo body.resinfos body.wordNone body.payload body.headed body.reading
     plain escape line idLine versionLine noneLine methodLine reasonLine letterOf propertyLine propertyLines resultLines lines ignoredOf
     refusal fitted answer report naming sized extent placesAround insertionPlaces insertAt
 opened = tt

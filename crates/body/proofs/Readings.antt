@@ -8,44 +8,43 @@ use borrow.Author.Tests.{le-leb}
 use lib.ListN.{length, drop, take, take-append-drop}
 use lib.Seq.{length-take-le}
 use Rattle.sequences.proofs.Booleans.{no-true}
-use Rattle.reading.specs.Texts.{same, follows}
+use Rattle.reading.specs.Texts.{bytes, follows}
 use Rattle.reading.specs.Parsers.{Got, nothing, got}
-use Rattle.reading.proofs.Texts.{same-eq}
 use Rattle.reading.proofs.Steadiness.{steady-exact}
 use Rattle.lexis_rules.specs.Limits.{byteLimit}
 use Rattle.lexis_rules.specs.declared.Class.the-variants.{Delimiter}
 use Rattle.lexis_rules.specs.Bytes.{inClass}
-use Rattle.resinfo_rules.specs.Results.{Result, one}
+use Rattle.lexis_rules.specs.Numbers.{numberOf, one, isOne}
+use Rattle.lexis_rules.proofs.VersionNumbers.{not-one}
+use Rattle.resinfo_rules.specs.Results.{Result}
 use Rattle.resinfo_rules.proofs.Following.{Delimited}
 use Rattle.body.specs.Body.{Head, malformed, newer, noResult, results, head, resinfos, wordNone, payload, headed, reading}
 use Rattle.body.specs.Report.{answer, report}
 use Rattle.body.specs.Newer.{naming, WellFormed}
+use Rattle.body.proofs.Opened.{opened}
 use Rattle.body.proofs.Heads.{naming-within, naming-steady, naming-head}
 
 pub report-is : (b : List ℕ) (room : ℕ) → length b ≤ byteLimit → report b room ≡ answer room (reading b)
 unfolding report
 report-is b room h = rw (report, le-leb (length b) byteLimit h)
 
--- a test of texts that are not the same
-pub same-not : (v w : List ℕ) → (v ≡ w → ⊥) → same v w ≡ false
-same-not v w ne = go (same v w) refl
-  where
-    go : (t : Bool) → same v w ≡ t → same v w ≡ false
-    go true e = absurd (ne (same-eq v w e))
-    go false e = e
-
 -- ==== by the head
+
+-- the number of the header version that is meant where it is absent
+pub first-one : isOne (numberOf (bytes "1")) ≡ true
+unfolding opened
+first-one = refl
 
 pub reading-is : (b : List ℕ) (h : Head) (n : ℕ) → head b ≡ got h n → reading b ≡ headed h (drop n b)
 unfolding reading
 reading-is b h n e = rw (reading, e)
 
 module _ (h : Head) (xs : List ℕ) (f : Delimited xs) where
-  pub headed-is : same (h .version) one ≡ true → headed h xs ≡ payload (h .identifier) xs
+  pub headed-is : isOne (numberOf (h .version)) ≡ true → headed h xs ≡ payload (h .identifier) xs
   unfolding headed
   headed-is v = rw (headed, f, v)
 
-  pub headed-newer : same (h .version) one ≡ false → headed h xs ≡ newer h
+  pub headed-newer : isOne (numberOf (h .version)) ≡ false → headed h xs ≡ newer h
   unfolding headed
   headed-newer v = rw (headed, f, v)
 
@@ -56,21 +55,21 @@ pub record Sound (b : List ℕ) : Type 0 where
   pub heads : Head
   pub size : ℕ
   pub reads : head b ≡ got heads size
-  pub first : same (heads .version) one ≡ true
+  pub first : isOne (numberOf (heads .version)) ≡ true
   pub says : reading b ≡ payload (heads .identifier) (drop size b)
 
 pub well-formed-inv : (b : List ℕ) → WellFormed b → Sound b
 unfolding reading headed
 well-formed-inv b h = go (head b) refl
   where
-    behind : (hd : Head) (n : ℕ) → head b ≡ got hd n → (f v : Bool) → follows (inClass Delimiter) (drop n b) ≡ f → same (hd .version) one ≡ v → Sound b
+    behind : (hd : Head) (n : ℕ) → head b ≡ got hd n → (f v : Bool) → follows (inClass Delimiter) (drop n b) ≡ f → isOne (numberOf (hd .version)) ≡ v → Sound b
     behind hd n e false v p q = absurd (no-true (rw (reading, e, headed, p) at h))
     behind hd n e true false p q = absurd (no-true (rw (reading, e, headed, p, q) at h))
     behind hd n e true true p q = record { heads = hd; size = n; reads = e; first = q; says = rw (reading, e, headed, p, q) }
 
     go : (x : Got Head) → head b ≡ x → Sound b
     go nothing e = absurd (no-true (rw (reading, e) at h))
-    go (got hd n) e = behind hd n e (follows (inClass Delimiter) (drop n b)) (same (hd .version) one) refl refl
+    go (got hd n) e = behind hd n e (follows (inClass Delimiter) (drop n b)) (isOne (numberOf (hd .version))) refl refl
 
 -- what follows is neither, the word none, or one or more results
 pub data Payload (i xs : List ℕ) : Type 0 where
@@ -97,10 +96,10 @@ payload-is i xs r rs n e = rw (payload, e)
 
 -- ==== bodies that name a newer header version
 
-pub naming-newer : (b : List ℕ) (h : Head) (n : ℕ) → naming b ≡ got h n → (h .version ≡ one → ⊥) → reading b ≡ newer h
+pub naming-newer : (b : List ℕ) (h : Head) (n : ℕ) → naming b ≡ got h n → (numberOf (h .version) ≡ one → ⊥) → reading b ≡ newer h
 naming-newer b h n e ne =
     let v = naming-head b h n e in
-    reading-is b h n (v .0) ∙ headed-newer h (drop n b) (v .1) (same-not (h .version) one ne)
+    reading-is b h n (v .0) ∙ headed-newer h (drop n b) (v .1) (not-one (numberOf (h .version)) ne)
 
 -- the same bytes up to the end of the number name the same
 naming-same : (b c : List ℕ) (g h : Head) (n m : ℕ) → naming b ≡ got g n → naming c ≡ got h m → take n b ≡ take m c → naming c ≡ got g n
@@ -113,6 +112,6 @@ naming-same b c g h n m e f s =
     let q : naming (w ++ drop m c) ≡ got g (length w) = steady-exact naming Delimited naming-steady w (drop n b) (drop m c) g p (naming-head c h m f .1) in
     subst (λ (k : ℕ). naming c ≡ got g k) l (subst (λ (t : List ℕ). naming t ≡ got g (length w)) y q)
 
-pub newer-same : (b c : List ℕ) (g h : Head) (n m : ℕ) → naming b ≡ got g n → naming c ≡ got h m → (g .version ≡ one → ⊥) → take n b ≡ take m c
+pub newer-same : (b c : List ℕ) (g h : Head) (n m : ℕ) → naming b ≡ got g n → naming c ≡ got h m → (numberOf (g .version) ≡ one → ⊥) → take n b ≡ take m c
     → reading b ≡ reading c
 newer-same b c g h n m e f ne s = naming-newer b g n e ne ∙ sym (naming-newer c g n (naming-same b c g h n m e f s) ne)

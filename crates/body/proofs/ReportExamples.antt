@@ -8,6 +8,7 @@ use mathlib.Core.Option.{Option, none, some}
 use lib.ListN.{length}
 use Rattle.reading.specs.Texts.{bytes}
 use Rattle.reading.proofs.Cases.{case, Says}
+use Rattle.lexis_rules.specs.declared.VersionNumber.the-variants.{Exact}
 use Rattle.resinfo_rules.specs.Results.{Kind, Token, Quoted, Mailbox, AtDomain, Property, Methodspec, Result}
 use Rattle.body.specs.Body.{Reading, unreadable, malformed, newer, noResult, results}
 use Rattle.body.specs.Report.{hexDigit, plain, escape, line, idLine, versionLine, noneLine, methodLine, reasonLine, letterOf, propertyLine, resultLines, lines, ignoredOf, Answer, fitted, answer, report}
@@ -56,7 +57,7 @@ unfolding opened
 columns = refl
 
 abbrev spf : Methodspec
-spf = record { method = bytes "spf"; version = bytes "1"; result = bytes "pass" }
+spf = record { method = bytes "spf"; version = Exact 1; result = bytes "pass" }
 
 -- `id`, `v`, `none` and `m`
 first-lines :
@@ -98,10 +99,10 @@ whole-result = refl
 -- ==== what is ignored
 
 abbrev newMethod : Methodspec
-newMethod = record { method = bytes "spf"; version = bytes "2"; result = bytes "pass" }
+newMethod = record { method = bytes "spf"; version = Exact 2; result = bytes "pass" }
 
 abbrev otherMethod : Methodspec
-otherMethod = record { method = bytes "none"; version = bytes "1"; result = bytes "pass" }
+otherMethod = record { method = bytes "none"; version = Exact 1; result = bytes "pass" }
 
 -- understood, then for each reason one that isn't (a method version, a method, a ptype), then understood
 abbrev some-results : List Result

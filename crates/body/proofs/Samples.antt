@@ -47,6 +47,36 @@ rooms = refl
 
 -- ==== rules, each with a neighbour on the other side
 
+-- 02, ticket [3]: the number of a header version decides, and the `v` line has all its digits but leading zeros
+header-numbers :
+    Says reported
+    (case (bytes "a 0; none") (says 8 (bytes "id\ta\nv\t0\n") 0)
+    ∷ case (bytes "a 00; none") (says 8 (bytes "id\ta\nv\t0\n") 0)
+    ∷ case (bytes "a 1; none") (says 0 (bytes "id\ta\nnone\n") 0)
+    ∷ case (bytes "a 01; none") (says 0 (bytes "id\ta\nnone\n") 0)
+    ∷ case (bytes "a 999999; none") (says 8 (bytes "id\ta\nv\t999999\n") 0)
+    ∷ case (bytes "a 0999999; none") (says 8 (bytes "id\ta\nv\t999999\n") 0)
+    ∷ case (bytes "a 1000000; none") (says 8 (bytes "id\ta\nv\t1000000\n") 0)
+    ∷ case (bytes "a 0018446744073709551617; none") (says 8 (bytes "id\ta\nv\t18446744073709551617\n") 0)
+    ∷ [])
+unfolding opened
+header-numbers = refl
+
+-- and that of a method version
+method-numbers :
+    Says reported
+    (case (bytes "a; spf/0=pass") (says 0 (bytes "id\ta\n") 1)
+    ∷ case (bytes "a; spf/00=pass") (says 0 (bytes "id\ta\n") 1)
+    ∷ case (bytes "a; spf/1=pass") (says 0 (bytes "id\ta\nm\tspf\tpass\n") 0)
+    ∷ case (bytes "a; spf/01=pass") (says 0 (bytes "id\ta\nm\tspf\tpass\n") 0)
+    ∷ case (bytes "a; spf/999999=pass") (says 0 (bytes "id\ta\n") 1)
+    ∷ case (bytes "a; spf/0999999=pass") (says 0 (bytes "id\ta\n") 1)
+    ∷ case (bytes "a; spf/1000000=pass") (says 0 (bytes "id\ta\n") 1)
+    ∷ case (bytes "a; spf/1000001=pass") (says 0 (bytes "id\ta\n") 1)
+    ∷ [])
+unfolding opened
+method-numbers = refl
+
 -- what may follow the identifier, and the header version
 heads :
     Says reported

@@ -9,7 +9,7 @@ use mathlib.Core.List.{List, [], _∷_, _++_}
 use mathlib.Core.Option.{some}
 use lib.Dec.{leb}
 use lib.ListN.{length, drop, length-append, length-drop}
-use Rattle.reading.specs.Texts.{bytes, same, follows}
+use Rattle.reading.specs.Texts.{bytes, follows}
 use Rattle.reading.specs.Parsers.{Got, nothing, got, give, end, optional, several}
 use Rattle.reading.specs.Locality.{Within}
 use Rattle.reading.proofs.Bounds.{within-weaker, bind-within, bind-within₂, give-within, ahead-within, end-within, byte-within, optional-within, several-within}
@@ -17,15 +17,17 @@ use Rattle.lexis_rules.specs.Limits.{byteLimit}
 use Rattle.lexis_rules.specs.declared.Class.the-variants.{Delimiter}
 use Rattle.lexis_rules.specs.Bytes.{inClass}
 use Rattle.lexis_rules.specs.Words.{valueText, skip, readWord}
+use Rattle.lexis_rules.specs.Numbers.{numberOf, isOne}
 use Rattle.lexis_rules.proofs.Steadiness.{skip-within, word-within}
 use Rattle.authserv_rules.specs.Identifier.{identifierValue, identifier}
-use Rattle.authserv_rules.specs.Version.{stated}
-use Rattle.resinfo_rules.specs.Results.{Kind, Token, Quoted, Mailbox, AtDomain, Property, Methodspec, Result, mark, one, orOne, methodVersion, methodspec, reason, property, result}
+use Rattle.authserv_rules.specs.Version.{stated, headerVersion}
+use Rattle.resinfo_rules.specs.Results.{Kind, Token, Quoted, Mailbox, AtDomain, Property, Methodspec, Result, mark, orOne, methodVersion, methodspec, reason, property, result}
 use Rattle.resinfo_rules.specs.Table.{understood}
 use Rattle.resinfo_rules.proofs.Following.{mark-within}
 use Rattle.resinfo_rules.proofs.Results.{method-version-within}
 use Rattle.body.specs.Body.{Head, Reading, unreadable, malformed, newer, noResult, results, head, resinfo, resinfos, wordNone, payload, headed, reading}
 use Rattle.body.specs.Report.{plain, escape, line, idLine, versionLine, noneLine, methodLine, reasonLine, letterOf, propertyLine, propertyLines, resultLines, lines, refusal, fitted, answer, report}
+use Rattle.body.proofs.Opened.{opened}
 use Rattle.body.proofs.Weights.{Sized, thrice, bind-sized, sized-more, give-sized, optional-sized, several-sized, within-sized, text-sized, value-short, keyword-sized, value-sized, digits-sized, gap-sized, mark-sized, skip-sized, ofValue, property-value-sized}
 use Rattle.body.proofs.Heads.{head-within}
 use Rattle.body.proofs.Readings.{Payload, neither, word, some, payload-cases}
@@ -186,24 +188,24 @@ stated-size xs v n h = omega (arith, stated-sized .bound xs v n h)
 
 -- what the line of a header version weighs, if one is written
 abbrev ofVersion : List ℕ → ℕ
-ofVersion v = cond (same v one) 0 (length (versionLine v))
+ofVersion v = cond (isOne (numberOf v)) 0 (length (versionLine v))
 
 version-short : (v : List ℕ) → ofVersion v ≤ length (versionLine v)
-version-short v = go (same v one)
+version-short v = go (isOne (numberOf v))
   where
     go : (t : Bool) → cond t 0 (length (versionLine v)) ≤ length (versionLine v)
     go true = omega arith
     go false = omega arith
 
-optional-stated-sized : Sized (λ o. ofVersion (orOne o)) 0 (optional stated)
-unfolding orOne same
-optional-stated-sized = optional-sized (λ o. ofVersion (orOne o)) refl version-short stated-sized
+optional-stated-sized : Sized (λ o. ofVersion (headerVersion o)) 0 (optional stated)
+unfolding opened
+optional-stated-sized = optional-sized (λ o. ofVersion (headerVersion o)) refl version-short stated-sized
 
 head-sized : Sized (λ h. length (idLine (h .identifier)) + ofVersion (h .version)) 4 head
 unfolding head
 head-sized =
     bind-sized identifier-sized
-    (λ i. bind-sized optional-stated-sized (λ v. give-sized (record { identifier = i; version = orOne v }) (omega (arith, id-line i))))
+    (λ i. bind-sized optional-stated-sized (λ v. give-sized (record { identifier = i; version = headerVersion v }) (omega (arith, id-line i))))
 
 resinfos-sized : Sized (λ rs. length (lines rs)) 0 resinfos
 unfolding resinfos
@@ -265,9 +267,9 @@ payload-size i xs = go (payload-cases i xs)
 
 headed-size : (h : Head) (xs : List ℕ) → length (whole (headed h xs)) ≤ length (idLine (h .identifier)) + (ofVersion (h .version) + 3 * length xs)
 unfolding headed
-headed-size h xs = go (follows (inClass Delimiter) xs) (same (h .version) one) refl refl
+headed-size h xs = go (follows (inClass Delimiter) xs) (isOne (numberOf (h .version))) refl refl
   where
-    go : (f v : Bool) → follows (inClass Delimiter) xs ≡ f → same (h .version) one ≡ v
+    go : (f v : Bool) → follows (inClass Delimiter) xs ≡ f → isOne (numberOf (h .version)) ≡ v
         → length (whole (headed h xs)) ≤ length (idLine (h .identifier)) + (ofVersion (h .version) + 3 * length xs)
     go false v d e = rw (headed, d) (omega arith)
     go true true d e = rw (headed, d, e) (omega (arith, payload-size (h .identifier) xs))

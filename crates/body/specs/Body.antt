@@ -5,14 +5,15 @@ use Prim.Native.Nat.{ℕ}
 use mathlib.Core.Bool.{true, false}
 use mathlib.Core.List.{List, [], _∷_}
 use lib.ListN.{drop}
-use Rattle.reading.specs.Texts.{bytes, same, follows}
+use Rattle.reading.specs.Texts.{bytes, follows}
 use Rattle.reading.specs.Parsers.{nothing, got, Parser, _>>=_, _>>_, give, end, optional, several}
 use Rattle.lexis_rules.specs.declared.Class.the-variants.{Delimiter}
 use Rattle.lexis_rules.specs.Bytes.{inClass}
 use Rattle.lexis_rules.specs.Words.{skip, readWord}
+use Rattle.lexis_rules.specs.Numbers.{numberOf, isOne}
 use Rattle.authserv_rules.specs.Identifier.{identifier}
-use Rattle.authserv_rules.specs.Version.{stated}
-use Rattle.resinfo_rules.specs.Results.{Result, mark, one, orOne, result}
+use Rattle.authserv_rules.specs.Version.{stated, headerVersion}
+use Rattle.resinfo_rules.specs.Results.{Result, mark, result}
 
 -- ==== what a body says
 
@@ -40,7 +41,7 @@ unfoldable pub head : Parser Head
 head = do
   i ← identifier
   v ← optional stated
-  give (record { identifier = i; version = orOne v })
+  give (record { identifier = i; version = headerVersion v })
 
 -- a result, with the space that is allowed before it
 unfoldable pub resinfo : Parser Result
@@ -74,12 +75,12 @@ payload i xs =
       | got rs _ ↦ (elim rs [ [] ↦ malformed | r ∷ rs ↦ results i (r ∷ rs) ])
     ]
 
--- the end or one of the same five bytes must follow, else 9. A number other than 1 answers 8
+-- the end or one of the same five bytes must follow, else 9. A number other than 1 answers 8: it is the number of the digits that decides
 unfoldable pub headed : Head → List ℕ → Reading
 headed h xs =
     elim (follows (inClass Delimiter) xs) [
       | false ↦ malformed
-      | true ↦ (elim (same (h .version) one) [ true ↦ payload (h .identifier) xs | false ↦ newer h ])
+      | true ↦ (elim (isOne (numberOf (h .version))) [ true ↦ payload (h .identifier) xs | false ↦ newer h ])
     ]
 
 -- Where the identifier can't be read, nothing further is tried

@@ -7,9 +7,9 @@ use mathlib.Core.Bool.{Bool, true, false, _&&_}
 use mathlib.Core.List.{List, [], _∷_, _++_, append-assoc, append-nil, map}
 use mathlib.Core.Option.{Option, none, some}
 use Rattle.sequences.proofs.Booleans.{no-true, and-left, and-right}
-use Rattle.reading.specs.Texts.{same}
-use Rattle.reading.proofs.Texts.{same-refl, same-eq}
-use Rattle.resinfo_rules.specs.Results.{Property, Result, one}
+use Rattle.lexis_rules.specs.Numbers.{one, isOne}
+use Rattle.lexis_rules.proofs.VersionNumbers.{is-one}
+use Rattle.resinfo_rules.specs.Results.{Property, Result}
 use Rattle.resinfo_rules.specs.Table.{listed, table, ptypes, tabled, knownVersion, knownMethod, knownTypes, understood}
 use Rattle.body.specs.Report.{methodLine, reasonLine, propertyLine, propertyLines, resultLines, lines, ignoredOf}
 use Rattle.compose.specs.Entries.{Entry, identified, unstated, judged, reasoned, shown, lineOf, isKeyword, allowed}
@@ -134,7 +134,7 @@ types-known (p ∷ ps) h = rw (and-left (listed ptypes (p .ptype)) _ (and-left (
 
 pub stated-understood : (r : Result) → Stated r → understood r ≡ true
 unfolding understood knownMethod knownVersion
-stated-understood r s = rw (s .version, same-refl one, s .tabled) (types-known (r .properties) (s .properties))
+stated-understood r s = rw (s .version, s .tabled) (types-known (r .properties) (s .properties))
 
 known-allowed : (ps : List Property) → knownTypes ps ≡ true → Each Named ps → Each Allowed ps
 unfolding knownTypes allowed
@@ -149,12 +149,12 @@ reasoned-byted (some t) b = b .0
 pub understood-stated : (r : Result) → understood r ≡ true → Byted (r .reason) × Each Named (r .properties) → Stated r
 unfolding understood knownMethod knownVersion
 understood-stated r e h =
-    let m = and-left (same (r .methodspec .version) one && tabled table (r .methodspec .method) (r .methodspec .result)) _ e in
+    let m = and-left (isOne (r .methodspec .version) && tabled table (r .methodspec .method) (r .methodspec .result)) _ e in
     record {
-      tabled = and-right (same (r .methodspec .version) one) _ m;
-      version = same-eq (r .methodspec .version) one (and-left (same (r .methodspec .version) one) _ m);
+      tabled = and-right (isOne (r .methodspec .version)) _ m;
+      version = is-one (r .methodspec .version) (and-left (isOne (r .methodspec .version)) _ m);
       reason = reasoned-byted (r .reason) (h .0);
-      properties = known-allowed (r .properties) (and-right (same (r .methodspec .version) one && tabled table (r .methodspec .method) (r .methodspec .result)) _ e) (h .1);
+      properties = known-allowed (r .properties) (and-right (isOne (r .methodspec .version) && tabled table (r .methodspec .method) (r .methodspec .result)) _ e) (h .1);
     }
 
 -- the lines of such results

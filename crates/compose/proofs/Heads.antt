@@ -12,7 +12,6 @@ use Rattle.reading.specs.Texts.{bytes, within, oneOf, starts, follows}
 use Rattle.reading.specs.Readers.{run}
 use Rattle.reading.specs.Parsers.{nothing, got, ahead, end, text, optional, several}
 use Rattle.reading.specs.Locality.{Ends, Fits, Local, Shut}
-use Rattle.reading.proofs.Texts.{same-refl}
 use Rattle.reading.proofs.Local.{run-local}
 use Rattle.reading.proofs.Readers.{run-fits, run-first}
 use Rattle.reading.proofs.Sequencing.{end-is}
@@ -21,15 +20,15 @@ use Rattle.lexis_rules.specs.Bytes.{inClass}
 use Rattle.lexis_rules.specs.Pieces.{space}
 use Rattle.lexis_rules.specs.Words.{valueText, skip}
 use Rattle.authserv_rules.specs.Identifier.{identifierByte, identifierToken, identifierValue, identifier}
-use Rattle.authserv_rules.specs.Version.{stated}
-use Rattle.resinfo_rules.specs.Results.{Result, one, orOne}
+use Rattle.authserv_rules.specs.Version.{stated, headerVersion}
+use Rattle.resinfo_rules.specs.Results.{Result}
 use Rattle.resinfo_rules.proofs.Opened as resinfo
 use Rattle.resinfo_rules.proofs.Following.{Delimited, solid, delimited-ends}
 use Rattle.body.specs.Body.{Head, malformed, noResult, results, head, resinfo, resinfos, payload, reading}
 use Rattle.body.specs.Newer.{WellFormed}
 use Rattle.body.proofs.Opened as body
 use Rattle.body.proofs.Sequence.{over-none, resinfo-within}
-use Rattle.body.proofs.Readings.{reading-is, headed-is, payload-is, Sound, well-formed-inv, Payload, neither, word, some, payload-cases}
+use Rattle.body.proofs.Readings.{reading-is, first-one, headed-is, payload-is, Sound, well-formed-inv, Payload, neither, word, some, payload-cases}
 use Rattle.body.proofs.Heads.{closed-stated}
 use Rattle.compose.specs.Entries.{identified, unstated, whole, quotable, isText}
 use Rattle.compose.specs.Bodies.{quote, bareOr, piece}
@@ -103,10 +102,10 @@ identifier-reads i e =
     (written-solid i (whole identifierToken i) refl)
 
 abbrev headIs : List ℕ → Head
-headIs i = record { identifier = i; version = one }
+headIs i = record { identifier = i; version = bytes "1" }
 
 pub head-reads : (i : List ℕ) → isText i ≡ true → Reads head (piece (identified i)) (headIs i) Stop
-unfolding head orOne
+unfolding head headerVersion
 head-reads i e =
     last-reads identifier _ (piece (identified i)) i (headIs i) Stop (weaker-reads identifier (piece (identified i)) i Delimited Stop stop-delimited (identifier-reads i e))
     (none-reads (optional stated) _ [] none (headIs i) Stop Stop (absent-reads stated Stop (λ t g. closed-stated t (stop-closed t g))) (give-reads (headIs i) Stop) (λ t g. g))
@@ -116,7 +115,7 @@ pub reading-written : (i t : List ℕ) → isText i ≡ true → Stop t → read
 reading-written i t e g =
     let b = piece (identified i) ++ t in
     let d : drop (length (piece (identified i))) b ≡ t = drop-append-seam (piece (identified i)) t in
-    reading-is b (headIs i) (length (piece (identified i))) (head-reads i e t g) ∙ rw d (headed-is (headIs i) t (stop-delimited t g) (same-refl one))
+    reading-is b (headIs i) (length (piece (identified i))) (head-reads i e t g) ∙ rw d (headed-is (headIs i) t (stop-delimited t g) first-one)
 
 -- ==== the word none
 
@@ -169,7 +168,7 @@ identifier-finds =
     (λ b w j xs t n e. let g = give-finds (valueText v) xs t n e in rw (← g .0, g .1, j, append-nil u) (i .1))))
 
 abbrev versioned : List ℕ → Option (List ℕ) → Head
-versioned i v = record { identifier = i; version = orOne v }
+versioned i v = record { identifier = i; version = headerVersion v }
 
 abbrev Identified : Head → List ℕ → Type 0
 Identified h u = Texted (h .identifier) u

@@ -17,12 +17,14 @@ use Rattle.reading.proofs.Texts.{follows-weaker}
 use Rattle.reading.proofs.Readers.{many-more, choose-no, run-none}
 use Rattle.reading.proofs.Sequencing.{bind-none}
 use Rattle.lexis_rules.specs.declared.Class.the-variants as class
+use Rattle.lexis_rules.specs.declared.VersionNumber.{VersionNumber}
 use Rattle.lexis_rules.specs.Bytes.{inClass}
 use Rattle.lexis_rules.specs.Pieces.{space, comment, item, token, quoted}
+use Rattle.lexis_rules.specs.Numbers.{one}
 use Rattle.lexis_rules.specs.Words.{skip, gap, readValue, readKeyword, readWord}
 use Rattle.lexis_rules.proofs.Locality.{space-none, token-local}
 use Rattle.lexis_rules.proofs.Steadiness.{value-opens, opensValue}
-use Rattle.resinfo_rules.specs.Results.{Property, Methodspec, Result, one, orOne, mark, propertyValue, methodVersion, methodspec, reason, property, result}
+use Rattle.resinfo_rules.specs.Results.{Property, Methodspec, Result, orOne, mark, propertyValue, methodVersion, methodspec, reason, property, result}
 use Rattle.resinfo_rules.specs.Table.{listed, table, ptypes, tabled}
 use Rattle.resinfo_rules.proofs.Opened as resinfo
 use Rattle.resinfo_rules.proofs.Following.{Delimited, Closed, solid, delimited-ends, mark-other}
@@ -278,7 +280,7 @@ made-reads m o r ps e f h =
 pub result-reads : (r : Result) → Stated r → Reads result (resultPieces r) r Stop
 result-reads r s =
     let m = r .methodspec in
-    let e : spec (m .method) (m .result) ≡ m = ap (λ (v : List ℕ). record { method = m .method; version = v; result = m .result }) (sym (s .version)) in
+    let e : spec (m .method) (m .result) ≡ m = ap (λ (v : VersionNumber). record { method = m .method; version = v; result = m .result }) (sym (s .version)) in
     rw e at (made-reads (m .method) (m .result) (r .reason) (r .properties) (s .tabled) (s .reason) (s .properties))
 
 pub result-front : (r : Result) (t : List ℕ) → Stop (resultPieces r ++ t)

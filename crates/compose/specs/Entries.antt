@@ -13,7 +13,8 @@ use Rattle.reading.specs.Parsers.{nothing, got, Parser, _>>=_, _>>_, give, when
 use Rattle.lexis_rules.specs.declared.Class.the-variants as class
 use Rattle.lexis_rules.specs.Bytes.{inClass, lower}
 use Rattle.lexis_rules.specs.Pieces.{token, keyword}
-use Rattle.resinfo_rules.specs.Results.{Kind, Token, Quoted, Mailbox, AtDomain, Property, next, one, domain}
+use Rattle.lexis_rules.specs.Numbers.{one}
+use Rattle.resinfo_rules.specs.Results.{Kind, Token, Quoted, Mailbox, AtDomain, Property, next, domain}
 use Rattle.resinfo_rules.specs.Table.{listed, table, ptypes, tabled}
 use Rattle.body.specs.Report.{plain, idLine, noneLine, methodLine, reasonLine, propertyLine}
 

@@ -5,6 +5,7 @@
 use lexis_rules::Class;
 use lexis_rules::Digits;
 use lexis_rules::Value;
+use lexis_rules::VersionNumber;
 ghost use mathlib.Core.Path.{_≡_};
 ghost use mathlib.Core.Bool.{false, true, _&&_};
 ghost use Prim.Native.Nat.{_+_, _-_, _≤_};
@@ -15,7 +16,8 @@ ghost use Rattle.reading.specs.Places.{Reaches};
 ghost use Rattle.lexis_rules.specs.Limits.{byteLimit, depthLimit};
 ghost use Rattle.lexis.specs.Internal.{freshAt};
 ghost use Rattle.lexis_rules.specs.Bytes.{inClass};
-ghost use Rattle.lexis_rules.specs.Pieces.{escapes, pair, fold, item, comment, content, space, bareSpace, token, quoted, keyword, digits, leading};
+ghost use Rattle.lexis_rules.specs.Pieces.{escapes, pair, fold, item, comment, content, space, bareSpace, token, quoted, keyword, digits, leading, decimal};
+ghost use Rattle.lexis_rules.specs.Numbers.{isOne};
 ghost use Rattle.lexis_rules.specs.Answers.{valueAt, digitsAt};
 
 // A place of a slice, and how many comments may still open there, one inside the other.
@@ -408,24 +410,61 @@ fn counted_from(s: &[u8], at: usize, end: usize) -> usize
     end - 1
 }
 
-// Whether there is one digit from `start` up to `end`, and it is 1.
-fn is_one(s: &[u8], start: usize, end: usize) -> bool
-    ensures { λ r. ⌜ r ≡ (eqb (end - start) 1 && eqb (getD (drop start (now (s .entry))) 0 0) 49) ⌝ }
+// What a digit is worth.
+fn digit(b: u8) -> u32
+    requires { ⌜ inClass Class.Digit b ≡ true ⌝ }
+    ensures { λ r. ⌜ r ≡ b - 48 ⌝ }
 {
-    if start < end {
-        if end - start == 1 {
-            return reading::is_at(s, start, 0, b'1');
-        }
-    }
-    false
+    wide(b - b'0')
 }
 
-// The digit run at a place.
+fn wide(x: u8) -> u32
+    ensures { λ r. ⌜ r ≡ x ⌝ }
+{
+    x as u32
+}
+
+// The number of a run of at most six digits, from `start` up to `end`.
+fn sum(s: &[u8], start: usize, end: usize) -> u32
+    requires { ⌜ (end ≡ start + digits (drop start (now s))) × (end ≤ start + 6) ⌝ }
+    ensures { λ r. ⌜ r ≡ decimal 0 (drop start (now (s .entry))) ⌝ }
+{
+    let mut n: u32 = 0;
+    let mut k = start;
+    while k < end {
+        n = n * 10 + digit(s[k]);
+        k += 1;
+    }
+    n
+}
+
+// The digit run at a place. More than six digits that count make a large number, and are not summed up: none can be too long.
 pub fn digits_at(s: &[u8], at: usize) -> Digits
     ensures { λ r. ⌜ r ≡ digitsAt (now (s .entry)) at ⌝ }
 {
     let end = run_end(s, at, Class::Digit);
     let start = counted_from(s, at, end);
-    let one = is_one(s, start, end);
-    Digits { start, end, one }
+    if end - start > 6 {
+        return Digits {
+            start,
+            end,
+            number: VersionNumber::Large,
+        };
+    }
+    let number = sum(s, start, end);
+    Digits {
+        start,
+        end,
+        number: VersionNumber::Exact { number },
+    }
+}
+
+// Whether a number is 1.
+pub fn is_one(number: VersionNumber) -> bool
+    ensures { λ r. ⌜ r ≡ isOne number ⌝ }
+{
+    match number {
+        VersionNumber::Exact { number } => number == 1,
+        VersionNumber::Large => false,
+    }
 }

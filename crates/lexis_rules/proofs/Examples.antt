@@ -12,13 +12,14 @@ use Rattle.reading.proofs.Cases.{Case, case, Says, copies}
 use Rattle.lexis_rules.specs.declared.Class.{Class}
 use Rattle.lexis_rules.specs.declared.Class.the-variants.{Blank, Opening, Zero, Digit, Keyword, Token, Quoted, Comment, Escaped, Name, Visible, Delimiter, Tag}
 use Rattle.lexis_rules.specs.Bytes.{inClass, letter, lower, alike}
-use Rattle.lexis_rules.specs.Pieces.{pair, fold, item, comment, space, bareSpace, token, quoted, value, unhyphened, keyword, digits, leading, decimal, isOne}
+use Rattle.lexis_rules.specs.Pieces.{pair, fold, item, comment, space, bareSpace, token, quoted, value, unhyphened, keyword, digits, leading, decimal}
+use Rattle.lexis_rules.specs.Numbers.{orLarge}
 use Rattle.lexis_rules.specs.Words.{quotedText, valueText, keywordText, counted}
 
 -- every definition opened at once
 unfoldable pub opened : Unit {0}
 unfolding inClass letter lower alike within oneOf same run many choose between passing lasts pair fold item comment unhyphened leading
-    decimal quotedText valueText counted
+    decimal orLarge quotedText valueText counted
 opened = tt
 
 -- n comments, one inside the other
@@ -194,22 +195,6 @@ counteds = refl
 numbers : Says (decimal 0) (case (bytes "65537;9") 65537 ∷ case (bytes "0120") 120 ∷ case (bytes "000") 0 ∷ case (bytes "x") 0 ∷ case [] 0 ∷ [])
 unfolding opened
 numbers = refl
-
--- 01, Identifier and header version: a number other than 1
-ones :
-    Says isOne
-    (case (bytes "1") true
-    ∷ case (bytes "01") true
-    ∷ case (bytes "0001;") true
-    ∷ case (bytes "000") false
-    ∷ case (bytes "10") false
-    ∷ case (bytes "11") false
-    ∷ case (bytes "2") false
-    ∷ case (bytes "18446744073709551617") false
-    ∷ case (bytes "x") false
-    ∷ [])
-unfolding opened
-ones = refl
 
 -- 01, Block and list, Small pieces: without regard to ASCII case
 alikes :

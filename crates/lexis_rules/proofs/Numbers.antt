@@ -16,15 +16,18 @@ use Rattle.reading.specs.Texts.{within}
 use Rattle.reading.specs.Readers.{run}
 use Rattle.reading.proofs.Readers.{run-more, run-take}
 use Rattle.lexis_rules.specs.declared.Class.the-variants.{Digit, Zero}
-use Rattle.lexis_rules.specs.declared.Digits.{Digits}
 use Rattle.lexis_rules.specs.Bytes.{inClass}
-use Rattle.lexis_rules.specs.Pieces.{digits, zeros, leading, decimal, isOne}
+use Rattle.lexis_rules.specs.Pieces.{digits, zeros, leading, decimal}
 use Rattle.lexis_rules.specs.Words.{counted}
-use Rattle.lexis_rules.specs.Answers.{digitsAt}
 
-digit-low : (x : ℕ) → inClass Digit x ≡ true → 48 ≤ x
+pub digit-low : (x : ℕ) → inClass Digit x ≡ true → 48 ≤ x
 unfolding inClass within
 digit-low x e = leb-true 48 x (and-left (leb 48 x) (leb x 57) e)
+
+-- a digit other than 0
+pub digit-above : (x : ℕ) → inClass Digit x ≡ true → inClass Zero x ≡ false → 1 ≤ x - 48
+unfolding inClass
+digit-above x e z = omega (arith, digit-low x e, eqb-false x 48 z)
 
 -- ==== one digit more
 
@@ -37,11 +40,11 @@ module _ (x : ℕ) (ys : List ℕ) where
   unfolding decimal
   decimal-stop n e = rw (decimal, e)
 
-  run-stop : (c : ℕ → Bool) → c x ≡ false → run c (x ∷ ys) ≡ 0
+  pub run-stop : (c : ℕ → Bool) → c x ≡ false → run c (x ∷ ys) ≡ 0
   unfolding run
   run-stop c e = rw (run, e)
 
-decimal-grows : (n : ℕ) (xs : List ℕ) → n ≤ decimal n xs
+pub decimal-grows : (n : ℕ) (xs : List ℕ) → n ≤ decimal n xs
 unfolding decimal
 decimal-grows n [] = omega arith
 decimal-grows n (x ∷ xs) = go (inClass Digit x) refl (decimal-grows (n * 10 + (x - 48)) xs)
@@ -51,7 +54,7 @@ decimal-grows n (x ∷ xs) = go (inClass Digit x) refl (decimal-grows (n * 10 + 
     go false e ih = omega (arith, decimal-stop x xs n e)
 
 -- no digit: the number stays
-decimal-end : (n : ℕ) (xs : List ℕ) → digits xs ≡ 0 → decimal n xs ≡ n
+pub decimal-end : (n : ℕ) (xs : List ℕ) → digits xs ≡ 0 → decimal n xs ≡ n
 unfolding decimal
 decimal-end n [] e = refl
 decimal-end n (x ∷ xs) e = go (inClass Digit x) refl
@@ -72,15 +75,15 @@ decimal-tens n (x ∷ xs) m e = go (inClass Digit x) refl
 
 -- ==== leading zeros
 
-zero-is : (x : ℕ) → inClass Zero x ≡ true → x ≡ 48
+pub zero-is : (x : ℕ) → inClass Zero x ≡ true → x ≡ 48
 unfolding inClass
 zero-is x e = eqb-true x 48 e
 
-zero-digit : (x : ℕ) → inClass Zero x ≡ true → inClass Digit x ≡ true
+pub zero-digit : (x : ℕ) → inClass Zero x ≡ true → inClass Digit x ≡ true
 unfolding inClass within
 zero-digit x e = rw (zero-is x e)
 
-zeros-le : (xs : List ℕ) → zeros xs ≤ digits xs
+pub zeros-le : (xs : List ℕ) → zeros xs ≤ digits xs
 unfolding run
 zeros-le [] = zero-le
 zeros-le (x ∷ xs) = go (inClass Zero x) refl (zeros-le xs)
@@ -93,12 +96,20 @@ leading-is : (xs : List ℕ) (z d : ℕ) → zeros xs ≡ z → digits xs ≡ d 
 unfolding leading
 leading-is xs z d p q = rw (p, q)
 
+pub leading-all : (xs : List ℕ) → zeros xs ≡ digits xs → leading xs ≡ digits xs - 1
+unfolding leading
+leading-all xs e = rw (eq-eqb (zeros xs) (digits xs) e)
+
+pub leading-some : (xs : List ℕ) → (zeros xs ≡ digits xs → ⊥) → leading xs ≡ zeros xs
+unfolding leading
+leading-some xs ne = rw (ne-eqb (zeros xs) (digits xs) ne)
+
 -- the digits that count, d in all less k, are the digit 1 alone
 abbrev alone : List ℕ → ℕ → ℕ → Bool
 alone xs d k = eqb (d - k) 1 && eqb (getD xs k 0) 49
 
 abbrev One : List ℕ → Type 0
-One xs = isOne xs ≡ alone xs (digits xs) (leading xs)
+One xs = eqb (decimal 0 xs) 1 ≡ alone xs (digits xs) (leading xs)
 
 module _ (x : ℕ) (ys : List ℕ) where
   -- no digit
@@ -149,9 +160,6 @@ module _ (x : ℕ) (ys : List ℕ) where
       low : 48 ≤ x
       low = digit-low x e
 
-      above : 1 ≤ x - 48
-      above = omega (arith, low, eqb-false x 48 z)
-
       one : (t : Bool) → eqb x 49 ≡ t → eqb (x - 48) 1 ≡ t
       one true q = eq-eqb (x - 48) 1 (omega (arith, eqb-true x 49 q))
       one false q = ne-eqb (x - 48) 1 (λ i. eqb-false x 49 q (omega (arith, low)))
@@ -160,7 +168,7 @@ module _ (x : ℕ) (ys : List ℕ) where
       go zero n = rw (decimal-end (x - 48) ys n) (one (eqb x 49) refl)
       go (suc m) n =
           let f : eqb (suc (suc m) - 0) 1 ≡ false = ne-eqb (suc (suc m) - 0) 1 (λ i. omega arith) in
-          rw f (ne-eqb (decimal (x - 48) ys) 1 (λ i. omega (arith, decimal-tens (x - 48) ys m n, above)))
+          rw f (ne-eqb (decimal (x - 48) ys) 1 (λ i. omega (arith, decimal-tens (x - 48) ys m n, digit-above x e z)))
 
 pub one-is : (xs : List ℕ) → One xs
 unfolding run decimal leading
@@ -191,38 +199,14 @@ counted-text xs n e =
 module _ (s : List ℕ) (at e : ℕ) (d : e ≡ at + digits (drop at s)) where
   module _ (z : ℕ) (q : z ≡ at + zeros (drop at s)) where
     pub counted-first : (z ≡ e → ⊥) → z ≡ at + leading (drop at s)
-    counted-first ne =
-        let n : eqb (zeros (drop at s)) (digits (drop at s)) ≡ false = ne-eqb (zeros (drop at s)) (digits (drop at s)) (λ i. ne (omega arith)) in
-        q ∙ ap (λ (k : ℕ). at + k) (sym (leading-is (drop at s) _ _ refl refl ∙ rw n))
+    counted-first ne = omega (arith, leading-some (drop at s) (λ i. ne (omega arith)))
 
     module _ (i : z ≡ e) where
       all : leading (drop at s) ≡ digits (drop at s) - 1
-      all =
-          let n : eqb (zeros (drop at s)) (digits (drop at s)) ≡ true = eq-eqb (zeros (drop at s)) (digits (drop at s)) (omega arith) in
-          leading-is (drop at s) _ _ refl refl ∙ rw n
+      all = leading-all (drop at s) (omega arith)
 
       pub counted-none : e ≡ at → at ≡ at + leading (drop at s)
       counted-none j = omega (arith, all)
 
       pub counted-last : (e ≡ at → ⊥) → e - 1 ≡ at + leading (drop at s)
       counted-last ne = omega (arith, all)
-
-  pub digits-are : (b : ℕ) → b ≡ at + leading (drop at s) → (o : Bool) → o ≡ (eqb (e - b) 1 && eqb (getD (drop b s) 0 0) 49)
-      → _≡_ {A = Digits} (record { start = b; end = e; one = o }) (digitsAt s at)
-  unfolding digitsAt
-  digits-are b p o q =
-      let j : e - b ≡ digits (drop at s) - leading (drop at s) = omega arith in
-      let g : getD (drop b s) 0 0 ≡ getD (drop at s) (leading (drop at s)) 0 = getD-drop b s 0 0 ∙ (ap (λ (k : ℕ). getD s k 0) (omega arith) ∙ sym (getD-drop at s (leading (drop at s)) 0)) in
-      let h : o ≡ isOne (drop at s) = q ∙ (rw (j, g) (sym (one-is (drop at s)))) in
-      rw (p, d, h)
-
--- one digit, or not
-module _ (s : List ℕ) (b e : ℕ) where
-  pub one-digit : e - b ≡ 1 → (r : Bool) → r ≡ eqb (getD (drop b s) 0 0) 49 → r ≡ (eqb (e - b) 1 && eqb (getD (drop b s) 0 0) 49)
-  one-digit h r q = rw (eq-eqb (e - b) 1 h) q
-
-  pub not-one-digit : (e - b ≡ 1 → ⊥) → false ≡ (eqb (e - b) 1 && eqb (getD (drop b s) 0 0) 49)
-  not-one-digit h = rw (ne-eqb (e - b) 1 h)
-
-  pub no-digits : e ≤ b → false ≡ (eqb (e - b) 1 && eqb (getD (drop b s) 0 0) 49)
-  no-digits h = not-one-digit (λ i. omega arith)

@@ -22,7 +22,8 @@ use Rattle.reading.proofs.Steadiness.{skipping-steady, pass-steady, text-steady
 use Rattle.lexis_rules.specs.declared.Class.the-variants.{Opening, Digit, Keyword, Token}
 use Rattle.lexis_rules.specs.Bytes.{inClass}
 use Rattle.lexis_rules.specs.Pieces.{space, token, quoted, value, unhyphened, keyword, digits}
-use Rattle.lexis_rules.specs.Words.{valueText, keywordText, counted, skip, gap, readValue, readKeyword, readWord, readDigits}
+use Rattle.lexis_rules.specs.Words.{valueText, keywordText, counted, skip, gap, readValue, readKeyword, readWord, readDigits, readNumber}
+use Rattle.lexis_rules.specs.Numbers.{numberOf}
 use Rattle.lexis_rules.proofs.Bytes.{class-zero}
 use Rattle.lexis_rules.proofs.Pieces.{space-fits, value-fits, keyword-fits}
 use Rattle.lexis_rules.proofs.Locality.{space-local, space-none, value-local, keyword-local, digits-local}
@@ -114,16 +115,38 @@ module _ (w : List ℕ) where
       zero-steady readKeyword (λ k. when (same k w)) (Ends (run (inClass Keyword))) keyword-steady
       (λ k. when-steady (same k w) (Ends (run (inClass Keyword)))) (λ k xs u n h. when-inv (same k w) xs u n h .1)
 
--- ==== digit run
+-- ==== digit run, whatever is told of it
+
+module _ {A : Type 0} (f : List ℕ → A) where
+  run-within : Within 1 (_>>=_ (text digits) (λ d. give (f d)))
+  run-within = bind-within 1 (text digits) (λ d. give (f d)) (text-within digits (run-fits (inClass Digit))) (λ d. give-within (f d))
+
+  run-opens : Opens (_>>=_ (text digits) (λ d. give (f d))) (Starts (inClass Digit))
+  run-opens = bind-opens (text digits) (λ d. give (f d)) (Starts (inClass Digit)) (text-opens digits (Starts (inClass Digit)) (run-first (inClass Digit)))
+
+  run-steady : Steady (_>>=_ (text digits) (λ d. give (f d))) (Ends digits)
+  run-steady = map-steady (text digits) f (Ends digits) (text-steady digits (Ends digits) digits-local)
 
 pub digits-within : Within 1 readDigits
 unfolding readDigits
-digits-within = bind-within 1 (text digits) (λ d. give (counted d)) (text-within digits (run-fits (inClass Digit))) (λ d. give-within (counted d))
+digits-within = run-within counted
 
 pub digits-opens : Opens readDigits (Starts (inClass Digit))
 unfolding readDigits
-digits-opens = bind-opens (text digits) (λ d. give (counted d)) (Starts (inClass Digit)) (text-opens digits (Starts (inClass Digit)) (run-first (inClass Digit)))
+digits-opens = run-opens counted
 
 pub digits-steady : Steady readDigits (Ends digits)
 unfolding readDigits
-digits-steady = map-steady (text digits) counted (Ends digits) (text-steady digits (Ends digits) digits-local)
+digits-steady = run-steady counted
+
+pub number-within : Within 1 readNumber
+unfolding readNumber
+number-within = run-within numberOf
+
+pub number-opens : Opens readNumber (Starts (inClass Digit))
+unfolding readNumber
+number-opens = run-opens numberOf
+
+pub number-steady : Steady readNumber (Ends digits)
+unfolding readNumber
+number-steady = run-steady numberOf

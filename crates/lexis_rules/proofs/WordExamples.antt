@@ -1,11 +1,11 @@
 -- The small pieces as parsers that yield their texts, and the code's answers at a place, at worked examples, computed. Assumes nothing.
 use mathlib.Core.Path.{_≡_, refl}
-use mathlib.Core.Bool.{true, false}
 use mathlib.Core.List.{[], _∷_, map}
 use Rattle.reading.specs.Texts.{bytes}
 use Rattle.reading.specs.Parsers.{nothing, got, after, _>>=_, give, when, skipping, text, pass}
 use Rattle.reading.proofs.Cases.{case, Says}
 use Rattle.lexis_rules.specs.declared.Value.the-variants.{Token, Quoted, Nothing}
+use Rattle.lexis_rules.specs.declared.VersionNumber.the-variants.{Exact, Large}
 use Rattle.lexis_rules.specs.Words.{skip, gap, readValue, readKeyword, readWord, readDigits}
 use Rattle.lexis_rules.specs.Answers.{valueAt, valueGot, digitsAt}
 use Rattle.lexis_rules.proofs.Examples as pieces
@@ -81,12 +81,14 @@ valuesGot = refl
 
 -- the digit run at each place of a text
 digitRunsAt :
-    map (digitsAt (bytes "a001;12 00")) (0 ∷ 1 ∷ 5 ∷ 8 ∷ 10 ∷ [])
-    ≡ record { start = 0; end = 0; one = false }
-    ∷ record { start = 3; end = 4; one = true }
-    ∷ record { start = 5; end = 7; one = false }
-    ∷ record { start = 9; end = 10; one = false }
-    ∷ record { start = 10; end = 10; one = false }
+    map (digitsAt (bytes "a001;12 00 01000000")) (0 ∷ 1 ∷ 5 ∷ 8 ∷ 10 ∷ 11 ∷ 19 ∷ [])
+    ≡ record { start = 0; end = 0; number = Exact 0 }
+    ∷ record { start = 3; end = 4; number = Exact 1 }
+    ∷ record { start = 5; end = 7; number = Exact 12 }
+    ∷ record { start = 9; end = 10; number = Exact 0 }
+    ∷ record { start = 10; end = 10; number = Exact 0 }
+    ∷ record { start = 12; end = 19; number = Large }
+    ∷ record { start = 19; end = 19; number = Exact 0 }
     ∷ []
 unfolding opened
 digitRunsAt = refl

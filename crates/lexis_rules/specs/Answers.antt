@@ -9,7 +9,8 @@ use Rattle.reading.specs.Parsers.{Got, nothing, got}
 use Rattle.lexis_rules.specs.declared.Value.{Value}
 use Rattle.lexis_rules.specs.declared.Value.the-variants.{Token, Quoted, Nothing}
 use Rattle.lexis_rules.specs.declared.Digits.{Digits}
-use Rattle.lexis_rules.specs.Pieces.{token, quoted, digits, leading, isOne}
+use Rattle.lexis_rules.specs.Pieces.{token, quoted, digits, leading}
+use Rattle.lexis_rules.specs.Numbers.{numberOf}
 use Rattle.lexis_rules.specs.Words.{quotedText}
 
 -- the value at a place, from its first byte up to the place after its last
@@ -26,6 +27,6 @@ valueGot s (Token a e) = got (take (e - a) (drop a s)) e
 valueGot s (Quoted a e) = got (quotedText (drop a s)) e
 valueGot s Nothing = nothing
 
--- the digit run at a place: its first digit that counts, the place after it, and whether its number is 1
+-- the digit run at a place: its first digit that counts, the place after it, and its number
 unfoldable pub digitsAt : List ℕ → ℕ → Digits
-digitsAt s at = record { start = at + leading (drop at s); end = at + digits (drop at s); one = isOne (drop at s) }
+digitsAt s at = record { start = at + leading (drop at s); end = at + digits (drop at s); number = numberOf (drop at s) }

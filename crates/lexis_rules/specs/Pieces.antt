@@ -91,7 +91,3 @@ leading xs = cond (eqb (zeros xs) (digits xs)) (digits xs - 1) (zeros xs)
 unfoldable pub decimal : ℕ → List ℕ → ℕ
 decimal n [] = n
 decimal n (x ∷ xs) = elim (inClass Digit x) [ true ↦ decimal (n * 10 + (x - code "0")) xs | false ↦ n ]
-
--- whether the number of a digit run is 1
-abbrev pub isOne : List ℕ → Bool
-isOne xs = eqb (decimal 0 xs) 1

@@ -9,8 +9,10 @@ use Rattle.reading.specs.Texts.{same}
 use Rattle.reading.specs.Readers.{lasts}
 use Rattle.reading.specs.Parsers.{Parser, _>>=_, _>>_, give, when, skipping, text, pass}
 use Rattle.lexis_rules.specs.declared.Class.the-variants.{Quoted}
+use Rattle.lexis_rules.specs.declared.VersionNumber.{VersionNumber}
 use Rattle.lexis_rules.specs.Bytes.{lower}
 use Rattle.lexis_rules.specs.Pieces.{item, space, value, keyword, digits, leading}
+use Rattle.lexis_rules.specs.Numbers.{numberOf}
 
 -- 01, Small pieces: the text of the quoted string at the front drops the quotes, the escaping backslashes and the CRLFs: of each item
 -- the last byte stays. (The closing quote is no item, so the text ends there.)
@@ -55,7 +57,14 @@ readWord w = do
   k ← readKeyword
   when (same k w)
 
+-- a digit run, as its digits that count
 unfoldable pub readDigits : Parser (List ℕ)
 readDigits = do
   d ← text digits
   give (counted d)
+
+-- a digit run, as its number
+unfoldable pub readNumber : Parser VersionNumber
+readNumber = do
+  d ← text digits
+  give (numberOf d)

@@ -24,10 +24,15 @@ pub enum Value {
     Nothing,
 }
 
-// A digit run: its first digit that counts, the place after it, and whether its number is 1. There is none where `end` is the place
-// asked for.
+// The number of a digit run: itself up to 999,999, and else that it is large (`numberOf` in specs/Numbers.antt; 02, ticket [3]).
+pub enum VersionNumber {
+    Exact { number: u32 },
+    Large,
+}
+
+// A digit run: its first digit that counts, the place after it, and its number. There is none where `end` is the place asked for.
 pub struct Digits {
     pub start: usize,
     pub end: usize,
-    pub one: bool,
+    pub number: VersionNumber,
 }

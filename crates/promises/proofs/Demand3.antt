@@ -6,7 +6,8 @@ use mathlib.Core.List.{List, [], _∷_, List·Memᴰ}
 use lib.Dec.{lit≤}
 use lib.ListN.{length, take}
 use Rattle.reading.specs.Texts.{bytes}
-use Rattle.resinfo_rules.specs.Results.{Result, one}
+use Rattle.lexis_rules.specs.Numbers.{numberOf, one}
+use Rattle.resinfo_rules.specs.Results.{Result}
 use Rattle.body.specs.Body.{reading}
 use Rattle.body.specs.Newer.{Names, WithinLimit, WellFormed, resultsOf, IsResult}
 use Rattle.body.specs.Beside.{insertionPlaces, insertAt}
@@ -19,7 +20,7 @@ use Rattle.promises.specs.Calls.{Reporting, reports}
 -- answer and report, whatever follows it in each
 
 -- for fields within the size limit
-pub newer-header : (b c v : List ℕ) (n m : ℕ) → Names b v n → Names c v m → (v ≡ one → ⊥) → take n b ≡ take m c → WithinLimit b → WithinLimit c
+pub newer-header : (b c v : List ℕ) (n m : ℕ) → Names b v n → Names c v m → (numberOf v ≡ one → ⊥) → take n b ≡ take m c → WithinLimit b → WithinLimit c
     → (old : List ℕ) → reports b old ≡ reports c old
 newer-header b c v n m B C ne s l k old = rw (demand3.newer-header b c v n m B C ne s l k (length old))
 

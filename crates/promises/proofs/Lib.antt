@@ -3,3 +3,4 @@ pub mod Demand2
 pub mod Demand3
 pub mod Ticket1
 pub mod Ticket2
+pub mod Ticket3

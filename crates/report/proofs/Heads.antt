@@ -6,39 +6,37 @@ use mathlib.Core.Path.{_≡_, refl, sym, ap, _∙_, subst}
 use mathlib.Core.Bool.{Bool, true, false}
 use mathlib.Core.List.{List, [], _∷_, _++_}
 use mathlib.Core.Option.{Option, none, some}
-use borrow.Author.Tests.{eqb-true}
-use lib.Dec.{eqb}
-use lib.ListN.{length, getD, drop, length-append, length-drop}
-use lib.Seq.{getD-drop, length-take-le}
+use lib.ListN.{length, drop, length-append, length-drop}
+use lib.Seq.{length-take-le, drop-drop}
 use Rattle.sequences.specs.Stored.{cap, Wrote, Clipped}
-use Rattle.sequences.proofs.Booleans.{cond-le}
 use Rattle.sequences.proofs.Clips.{clipped-wrote}
 use Rattle.sequences.proofs.Splices.{wrote-none, wrote-long, wrote-count}
-use Rattle.reading.specs.Texts.{within, same, follows}
+use Rattle.reading.specs.Texts.{bytes, follows}
 use Rattle.reading.specs.Parsers.{Got, nothing, got, optional}
 use Rattle.reading.specs.Places.{from}
-use Rattle.reading.proofs.Texts.{same-refl, same-eq}
-use Rattle.reading.proofs.Readers.{run-fits, run-narrow}
+use Rattle.reading.proofs.Readers.{run-fits}
 use Rattle.reading.proofs.Places.{at-got}
 use Rattle.reading.proofs.Sequencing.{bind-got, give-is, optional-some, optional-none}
 use Rattle.lexis_rules.specs.Limits.{byteLimit}
-use Rattle.lexis_rules.specs.declared.Class.the-variants.{Delimiter, Digit, Zero}
+use Rattle.lexis_rules.specs.declared.Class.the-variants.{Delimiter, Digit}
+use Rattle.lexis_rules.specs.declared.VersionNumber.{VersionNumber}
 use Rattle.lexis_rules.specs.Bytes.{inClass}
-use Rattle.lexis_rules.specs.Pieces.{space, digits, zeros, leading, isOne}
-use Rattle.lexis_rules.proofs.Numbers.{one-is}
+use Rattle.lexis_rules.specs.Pieces.{space, digits, leading}
+use Rattle.lexis_rules.specs.Numbers.{numberOf, isOne}
+use Rattle.lexis_rules.specs.Words.{counted}
+use Rattle.lexis_rules.proofs.VersionNumbers.{leading-le, number-counted}
 use Rattle.authserv.specs.declared.Identifier.the-variants.{Readable}
 use Rattle.authserv.specs.declared.Version.the-variants.{Absent, Stated}
 use Rattle.authserv_rules.specs.Identifier.{identifier}
-use Rattle.authserv_rules.specs.Version.{stated}
+use Rattle.authserv_rules.specs.Version.{stated, headerVersion}
 use Rattle.authserv.specs.Answers.{identifierAt, textOf, versionFrom, versionAt, versionGot}
 use Rattle.authserv.proofs.Identifiers.{identifier-found, identifier-inside}
 use Rattle.authserv.proofs.Versions.{version-got}
-use Rattle.resinfo_rules.specs.Results.{Result, one, orOne}
+use Rattle.resinfo_rules.specs.Results.{Result}
 use Rattle.values.specs.Values.{span}
-use Rattle.resinfo.proofs.Methods.{one-alone}
 use Rattle.body.specs.Body.{Head, Reading, malformed, newer, noResult, results, head, resinfos, wordNone, payload, headed, reading}
 use Rattle.body.specs.Report.{line, idLine, versionLine, noneLine, lines}
-use Rattle.body.proofs.Readings.{reading-is, headed-is}
+use Rattle.body.proofs.Readings.{reading-is, first-one, headed-is}
 use Rattle.body.specs.declared.Reported.{Reported}
 use Rattle.report.specs.Internal.{refused, Behind, newerAt, headedAt, Said}
 use Rattle.body.proofs.Sizes.{id-size}
@@ -52,11 +50,19 @@ named i v = record { identifier = i; version = v }
 
 -- the head of a body that states no other header version, without its identifier
 abbrev First : Head
-First = named [] one
+First = named [] (bytes "1")
 
 headed-shut : (h : Head) (xs : List ℕ) → follows (inClass Delimiter) xs ≡ false → headed h xs ≡ malformed
 unfolding headed
 headed-shut h xs f = rw (headed, f)
+
+-- what a body says whose header version has the number 1, whatever its digits
+headed-first : (v xs : List ℕ) → isOne (numberOf v) ≡ true → headed (named [] v) xs ≡ headed First xs
+headed-first v xs o = go (follows (inClass Delimiter) xs) refl
+  where
+    go : (t : Bool) → follows (inClass Delimiter) xs ≡ t → headed (named [] v) xs ≡ headed First xs
+    go true d = headed-is (named [] v) xs d o ∙ sym (headed-is First xs d first-one)
+    go false d = headed-shut (named [] v) xs d ∙ sym (headed-shut First xs d)
 
 -- the same is said
 behind-as : {x y : Reading} {old new : List ℕ} {to : ℕ} {r : Reported} → x ≡ y → Behind y old to new r → Behind x old to new r
@@ -65,7 +71,7 @@ behind-as {x} {y} {old} {new} {to} {r} e b = subst (λ (z : Reading). Behind z o
 module _ (s : List ℕ) (at : ℕ) (old : List ℕ) (to : ℕ) (d : Bool) (h : d ≡ follows (inClass Delimiter) (drop at s)) where
   module _ (t : d ≡ true) where
     first-is : headed First (drop at s) ≡ payload [] (drop at s)
-    first-is = headed-is First (drop at s) (sym h ∙ t) (same-refl one)
+    first-is = headed-is First (drop at s) (sym h ∙ t) first-one
 
     pub first-payload : (new : List ℕ) (x : Reported) → Behind (payload [] (drop at s)) old to new x → Behind (headed First (drop at s)) old to new x
     first-payload new x b = behind-as first-is b
@@ -103,101 +109,85 @@ module _ (s : List ℕ) (a e : ℕ) (old : List ℕ) (to : ℕ) where
 
 -- ==== the header version that is stated
 
--- the digits from a up to e are those that count of a run, and o says whether its number is 1
-record Counts (s : List ℕ) (a e : ℕ) (o : Bool) : Type 0 where
+-- the digits from a up to e are those that count of a run, and v is its number
+record Counts (s : List ℕ) (a e : ℕ) (v : VersionNumber) : Type 0 where
   at : ℕ
   less : ℕ
   some : digits (drop at s) ≡ suc less
   first : a ≡ at + leading (drop at s)
   last : e ≡ at + digits (drop at s)
-  is : o ≡ isOne (drop at s)
+  is : v ≡ numberOf (drop at s)
 
-version-inv : (s : List ℕ) (at a e : ℕ) (o : Bool) → Stated a e o ≡ versionAt s at → Counts s a e o
+version-inv : (s : List ℕ) (at a e : ℕ) (v : VersionNumber) → Stated a e v ≡ versionAt s at → Counts s a e v
 unfolding versionAt versionFrom
-version-inv s at a e o h = spaces (space (drop at s)) refl
+version-inv s at a e v h = spaces (space (drop at s)) refl
   where
-    absent : Stated a e o ≡ Absent → Counts s a e o
+    absent : Stated a e v ≡ Absent → Counts s a e v
     absent z = absurd (let b : _≡_ {A = ℕ} 0 1 = cc in omega arith)
 
-    run : (m n : ℕ) → space (drop at s) ≡ suc m → digits (drop (at + suc m) s) ≡ n → Counts s a e o
+    run : (m n : ℕ) → space (drop at s) ≡ suc m → digits (drop (at + suc m) s) ≡ n → Counts s a e v
     run m zero i d = absent (rw (versionAt, i, versionFrom, d) at h)
     run m (suc n) i d =
         let b = at + suc m in
-        let w : Stated a e o ≡ Stated (b + leading (drop b s)) (b + suc n) (isOne (drop b s)) = rw (versionAt, i, versionFrom, d) at h in
+        let w : Stated a e v ≡ Stated (b + leading (drop b s)) (b + suc n) (numberOf (drop b s)) = rw (versionAt, i, versionFrom, d) at h in
         let j : a ≡ b + leading (drop b s) = cc in
         let k : e ≡ b + suc n = cc in
-        let l : o ≡ isOne (drop b s) = cc in
+        let l : v ≡ numberOf (drop b s) = cc in
         record { at = b; less = n; some = d; first = j; last = k ∙ ap (λ (x : ℕ). b + x) (sym d); is = l }
 
-    spaces : (m : ℕ) → space (drop at s) ≡ m → Counts s a e o
+    spaces : (m : ℕ) → space (drop at s) ≡ m → Counts s a e v
     spaces zero i = absent (rw (versionAt, i) at h)
     spaces (suc m) i = run m (digits (drop (at + suc m) s)) i refl
 
-zero-digit : (b : ℕ) → inClass Zero b ≡ true → inClass Digit b ≡ true
-unfolding inClass within
-zero-digit b e = rw (eqb-true b 48 e)
-
--- those that don't count are digits of the run
-leading-le : (xs : List ℕ) → leading xs ≤ digits xs
-unfolding leading
-leading-le xs =
-    cond-le (eqb (zeros xs) (digits xs)) (digits xs - 1) (zeros xs) (digits xs) (λ i. omega arith)
-    (run-narrow (inClass Zero) (inClass Digit) zero-digit xs)
-
-module _ (s : List ℕ) (a e : ℕ) (o : Bool) (c : Counts s a e o) where
+module _ (s : List ℕ) (a e : ℕ) (v : VersionNumber) (c : Counts s a e v) where
   counts-inside : (a ≤ e) × (e ≤ length s)
   counts-inside = (
     omega (arith, c .first, c .last, leading-le (drop (c .at) s)),
     omega (arith, c .last, c .some, run-fits (inClass Digit) (drop (c .at) s), length-drop (c .at) s),
   )
 
-  -- they are the digit 1 alone where the number is 1
-  counts-one : same (span s a e) one ≡ o
-  counts-one =
+  -- their number is that of the run
+  counts-number : numberOf (span s a e) ≡ v
+  unfolding counted
+  counts-number =
       let b = c .at in
       let k : e - a ≡ digits (drop b s) - leading (drop b s) = omega (arith, c .first, c .last) in
-      let l : e - a ≤ length (drop a s) = omega (arith, counts-inside, length-drop a s) in
-      let g : getD (drop a s) 0 0 ≡ getD (drop b s) (leading (drop b s)) 0 =
-      getD-drop a s 0 0 ∙ (ap (λ (k : ℕ). getD s k 0) (omega (arith, c .first)) ∙ sym (getD-drop b s (leading (drop b s)) 0)) in
-      one-alone (e - a) (drop a s) l ∙ (rw (k, g) (sym (one-is (drop b s))) ∙ sym (c .is))
+      let d : drop a s ≡ drop (leading (drop b s)) (drop b s) = rw (c .first, drop-drop) in
+      let t : span s a e ≡ counted (drop b s) = rw (k, d) in
+      ap numberOf t ∙ (number-counted (drop b s) ∙ sym (c .is))
 
 module _ (s : List ℕ) (at : ℕ) where
-  headed-at : (v : Option (List ℕ)) (n : ℕ) → got v n ≡ from (optional stated) s at → headedAt s at ≡ headed (named [] (orOne v)) (drop n s)
+  headed-at : (v : Option (List ℕ)) (n : ℕ) → got v n ≡ from (optional stated) s at → headedAt s at ≡ headed (named [] (headerVersion v)) (drop n s)
   unfolding headedAt
   headed-at v n e = rw (headedAt, ← e)
 
   module _ (old : List ℕ) (to : ℕ) where
-    module _ (a e : ℕ) (o : Bool) (h : Stated a e o ≡ versionAt s at) where
+    module _ (a e : ℕ) (v : VersionNumber) (h : Stated a e v ≡ versionAt s at) where
       stated-is : headedAt s at ≡ headed (named [] (span s a e)) (drop e s)
-      unfolding orOne
+      unfolding headerVersion
       stated-is = headed-at (some (span s a e)) e (ap (versionGot s at) h ∙ version-got s at)
 
-      one-said : same (span s a e) one ≡ o
-      one-said = counts-one s a e o (version-inv s at a e o h)
-
-      module _ (t : o ≡ true) where
-        one-is-first : headedAt s at ≡ headed First (drop e s)
-        one-is-first =
-            let i : span s a e ≡ one = same-eq (span s a e) one (one-said ∙ t) in
-            stated-is ∙ ap (λ (v : List ℕ). headed (named [] v) (drop e s)) i
-
-        pub one-stated : (new : List ℕ) (x : Reported) → Behind (headed First (drop e s)) old to new x → Behind (headedAt s at) old to new x
-        one-stated new x b = behind-as one-is-first b
-
       pub other-room : Room s to → Room s to × ((a ≤ e) × (e ≤ length s))
-      other-room r = (r, counts-inside s a e o (version-inv s at a e o h))
+      other-room r = (r, counts-inside s a e v (version-inv s at a e v h))
 
-      pub other-stated : o ≡ false → (new : List ℕ) (x : Reported) → Behind (newerAt s a e) old to new x → Behind (headedAt s at) old to new x
-      unfolding newerAt headed
-      other-stated f new x b = behind-as (stated-is ∙ go (follows (inClass Delimiter) (drop e s)) refl) b
-        where
-          go : (t : Bool) → follows (inClass Delimiter) (drop e s) ≡ t → headed (named [] (span s a e)) (drop e s) ≡ newerAt s a e
-          go true d = rw (headed, newerAt, d, one-said, f)
-          go false d = rw (headed, newerAt, d)
+      module _ (o : Bool) (q : o ≡ isOne v) where
+        one-said : isOne (numberOf (span s a e)) ≡ o
+        one-said = ap isOne (counts-number s a e v (version-inv s at a e v h)) ∙ sym q
+
+        pub one-stated : o ≡ true → (new : List ℕ) (x : Reported) → Behind (headed First (drop e s)) old to new x → Behind (headedAt s at) old to new x
+        one-stated t new x b = behind-as (stated-is ∙ headed-first (span s a e) (drop e s) (one-said ∙ t)) b
+
+        pub other-stated : o ≡ false → (new : List ℕ) (x : Reported) → Behind (newerAt s a e) old to new x → Behind (headedAt s at) old to new x
+        unfolding newerAt headed
+        other-stated f new x b = behind-as (stated-is ∙ go (follows (inClass Delimiter) (drop e s)) refl) b
+          where
+            go : (t : Bool) → follows (inClass Delimiter) (drop e s) ≡ t → headed (named [] (span s a e)) (drop e s) ≡ newerAt s a e
+            go true d = rw (headed, newerAt, d, one-said, f)
+            go false d = rw (headed, newerAt, d)
 
     module _ (h : Absent ≡ versionAt s at) where
       absent-is : headedAt s at ≡ headed First (drop at s)
-      unfolding orOne
+      unfolding headerVersion
       absent-is = headed-at none at (ap (versionGot s at) h ∙ version-got s at)
 
       pub absent-stated : (new : List ℕ) (x : Reported) → Behind (headed First (drop at s)) old to new x → Behind (headedAt s at) old to new x
@@ -228,21 +218,21 @@ module _ (i xs : List ℕ) where
 
   headed-alike : (v : List ℕ) → Alike i (headed (named i v) xs) (headed (named [] v) xs)
   unfolding headed
-  headed-alike v = go (follows (inClass Delimiter) xs) (same v one) refl refl
+  headed-alike v = go (follows (inClass Delimiter) xs) (isOne (numberOf v)) refl refl
     where
-      go : (f o : Bool) → follows (inClass Delimiter) xs ≡ f → same v one ≡ o
+      go : (f o : Bool) → follows (inClass Delimiter) xs ≡ f → isOne (numberOf v) ≡ o
           → Alike i (headed (named i v) xs) (headed (named [] v) xs)
       go false o p q = rw (headed, p) ill
       go true true p q = rw (headed, p, q) payload-alike
       go true false p q = rw (headed, p, q) (other v)
 
 module _ (s i : List ℕ) (e : ℕ) (h : identifier s ≡ got i e) where
-  head-is : (v : Option (List ℕ)) (n : ℕ) → optional stated (drop e s) ≡ got v n → head s ≡ got (named i (orOne v)) (e + n)
+  head-is : (v : Option (List ℕ)) (n : ℕ) → optional stated (drop e s) ≡ got v n → head s ≡ got (named i (headerVersion v)) (e + n)
   unfolding head
   head-is v n o =
       let z : e + (n + 0) ≡ e + n = omega arith in
-      bind-got identifier _ s i e (named i (orOne v)) (n + 0) h
-      (bind-got (optional stated) _ (drop e s) v n (named i (orOne v)) 0 o (give-is (named i (orOne v)) (drop n (drop e s))))
+      bind-got identifier _ s i e (named i (headerVersion v)) (n + 0) h
+      (bind-got (optional stated) _ (drop e s) v n (named i (headerVersion v)) 0 o (give-is (named i (headerVersion v)) (drop n (drop e s))))
       ∙ rw z
 
   -- a body whose identifier is read says what stands behind it
@@ -251,8 +241,8 @@ module _ (s i : List ℕ) (e : ℕ) (h : identifier s ≡ got i e) where
     where
       behind : (v : Option (List ℕ)) (n : ℕ) → optional stated (drop e s) ≡ got v n → Alike i (reading s) (headedAt s e)
       behind v n o =
-          rw (reading-is s (named i (orOne v)) (e + n) (head-is v n o), headed-at s e v (e + n) (at-got (optional stated) s e v n (e + n) o refl))
-          (headed-alike i (drop (e + n) s) (orOne v))
+          rw (reading-is s (named i (headerVersion v)) (e + n) (head-is v n o), headed-at s e v (e + n) (at-got (optional stated) s e v n (e + n) o refl))
+          (headed-alike i (drop (e + n) s) (headerVersion v))
 
       go : (g : Got (List ℕ)) → stated (drop e s) ≡ g → Alike i (reading s) (headedAt s e)
       go nothing q = behind none 0 (optional-none stated (drop e s) q)

@@ -18,8 +18,10 @@ use Rattle.reading.specs.Places.{from, listAt, endAt}
 use Rattle.reading.proofs.Sequencing.{byte-is, byte-not}
 use Rattle.reading.proofs.Places.{at-got, at-none, goes-on, stops, gives, skipping-at, one-more, none-there}
 use Rattle.reading.proofs.Repeats.{list-is, list-none, end-none, further, list-more, end-more}
+use Rattle.lexis_rules.specs.declared.VersionNumber.{VersionNumber}
 use Rattle.lexis_rules.specs.Bytes.{lower}
 use Rattle.lexis_rules.specs.Pieces.{space}
+use Rattle.lexis_rules.specs.Numbers.{isOne}
 use Rattle.lexis_rules.specs.Words.{keywordText, skip}
 use Rattle.authserv.specs.Answers.{textOf}
 use Rattle.resinfo.specs.declared.Step.{Step}
@@ -32,7 +34,7 @@ use Rattle.resinfo.specs.declared.parts.Reason.the-variants.{Stated, Absent}
 use Rattle.values.specs.declared.Found.{Found}
 use Rattle.values.specs.declared.Found.the-variants as found
 use Rattle.values.specs.declared.Value as place
-use Rattle.resinfo_rules.specs.Results.{Property, Result, next, reason, property, methodspec, result}
+use Rattle.resinfo_rules.specs.Results.{Property, Methodspec, Result, next, reason, property, methodspec, result}
 use Rattle.values.specs.Values.{span, valueOf, valueAt}
 use Rattle.resinfo.specs.Parts.{spaced, marked, markedFrom, methodAt, reasonFrom, reasonGot, labelAt}
 use Rattle.resinfo.specs.Steps.{isEnd, endOf, propertyOf, stepOf, stepFrom, stepAt, propertyGot}
@@ -267,6 +269,16 @@ module _ (s : List ℕ) (i : ℕ) where
       (goes-on skip _ s (b + 1) tt a x (skipping-at space s (b + 1) a (q ∙ mark-size t)) h))
 
 -- the mark that was looked for at the place x, where the space behind the place i ends
+-- where the version is understood the table decides, and else the method is not known
+module _ (v : VersionNumber) (o : Bool) (h : o ≡ isOne v) (m r : List ℕ) where
+  pub version-known : o ≡ true → (t : Bool) → t ≡ tabled table m r → t ≡ (knownVersion m v && tabled table m r)
+  unfolding knownVersion
+  version-known e t q = rw (← h, e) q
+
+  pub version-unknown : o ≡ false → false ≡ (knownVersion m v && tabled table m r)
+  unfolding knownVersion
+  version-unknown e = rw (← h, e)
+
 module _ (s : List ℕ) (i x : ℕ) (y : x ≡ spaced s i) (a : ℕ) (z : a ≡ markedFrom 59 s i x) where
   q : a ≡ i + marked 59 (drop i s)
   q = mark-found s i x 59 y a z
@@ -291,28 +303,30 @@ module _ (s : List ℕ) (i x : ℕ) (y : x ≡ spaced s i) (a : ℕ) (z : a ≡ 
     pub no-method : method.Missing ≡ methodAt s a → nothing ≡ from resinfo s i
     no-method h = at-mark ne nothing (stops methodspec _ s a (at-none methodspec s a (method-not s a h)))
 
-    module _ (b e : ℕ) (o : Bool) (f g : ℕ) (h : method.Read b e o f g ≡ methodAt s a) where
+    module _ (b e : ℕ) (v : VersionNumber) (f g : ℕ) (h : method.Read b e v f g ≡ methodAt s a) where
       -- the result that stands there
+      abbrev spec : Methodspec
+      spec = record { method = keywordText (span s b e); version = v; result = keywordText (span s f g) }
+
       abbrev whole : Result
-      whole = record { methodspec = method-found s a b e o f g h .spec; reason = optionAt reason s g; properties = propertiesAt s g }
+      whole = record { methodspec = spec; reason = optionAt reason s g; properties = propertiesAt s g }
 
       read-whole : got whole (endAt property s (optionEnd reason s g)) ≡ from resinfo s i
       read-whole =
-          let m = method-found s a b e o f g h in
           let k = optionEnd reason s g in
           let n = endAt property s k in
           at-mark ne (got whole n)
-          (goes-on methodspec _ s a (m .spec) g (got whole n) (m .reads)
+          (goes-on methodspec _ s a spec g (got whole n) (method-found s a b e v f g h)
           (goes-on (optional reason) _ s g (optionAt reason s g) k (got whole n) (option-is reason s g)
           (goes-on (several property 0) _ s k (propertiesAt s g) n (got whole n) (list-is property s k) (gives whole s n))))
 
       lines-whole : resultLines whole ≡ methodText s b e f g ++ detailLines s g
       unfolding resultLines methodLine
-      lines-whole = let m = method-found s a b e o f g h in rw (m .method, m .result)
+      lines-whole = refl
 
-      known-whole : understood whole ≡ (o && tabled table (map lower (span s b e)) (map lower (span s f g)) && knownTypes (propertiesAt s g))
-      unfolding understood knownMethod knownVersion
-      known-whole = let m = method-found s a b e o f g h in rw (m .method, m .result, m .one)
+      known-whole : understood whole ≡ (knownVersion (map lower (span s b e)) v && tabled table (map lower (span s b e)) (map lower (span s f g)) && knownTypes (propertiesAt s g))
+      unfolding understood knownMethod
+      known-whole = refl
 
       lines-turn : turnLines s i ≡ methodText s b e f g ++ detailLines s g
       unfolding turnLines
@@ -329,7 +343,7 @@ module _ (s : List ℕ) (i x : ℕ) (y : x ≡ spaced s i) (a : ℕ) (z : a ≡ 
         pub turn-rest : n + length (detailLines s g) < 2 ^ 64
         turn-rest = omega (arith, l, turn-long, turn-wrote .place)
 
-        pub turn-read : (t : Bool) → t ≡ (o && tabled table (map lower (span s b e)) (map lower (span s f g))) → (new : List ℕ) (d : Details)
+        pub turn-read : (t : Bool) → t ≡ (knownVersion (map lower (span s b e)) v && tabled table (map lower (span s b e)) (map lower (span s f g))) → (new : List ℕ) (d : Details)
             → DetailsPut s g mid n new d → (u : Bool) → u ≡ (t && d .known) → TurnRead s i old to new (d .end) (d .gap) (d .next) u
         turn-read t q new d p u r =
             record {

@@ -12,8 +12,8 @@ use Rattle.reading.specs.Parsers.{nothing, got, Parser, optional}
 use Rattle.reading.specs.Places.{from, listAt, endAt}
 use Rattle.lexis_rules.specs.declared.Class.the-variants.{Delimiter}
 use Rattle.lexis_rules.specs.Bytes.{inClass}
-use Rattle.authserv_rules.specs.Version.{stated}
-use Rattle.resinfo_rules.specs.Results.{Property, Result, orOne, reason, property}
+use Rattle.authserv_rules.specs.Version.{stated, headerVersion}
+use Rattle.resinfo_rules.specs.Results.{Property, Result, reason, property}
 use Rattle.values.specs.Values.{span}
 use Rattle.resinfo.specs.Parts.{spaced}
 use Rattle.resinfo_rules.specs.Table.{knownTypes, understood}
@@ -134,7 +134,7 @@ newerAt s a e = elim (follows (inClass Delimiter) (drop e s)) [ false ↦ malfor
 
 -- what a body says whose identifier ends at a place; the identifier itself is left out
 unfoldable pub headedAt : List ℕ → ℕ → Reading
-headedAt s e = elim (from (optional stated) s e) [ nothing ↦ malformed | got v n ↦ headed (record { identifier = []; version = orOne v }) (drop n s) ]
+headedAt s e = elim (from (optional stated) s e) [ nothing ↦ malformed | got v n ↦ headed (record { identifier = []; version = headerVersion v }) (drop n s) ]
 
 -- the answer to a whole body
 abbrev pub wholeAnswer : Reading → Reported

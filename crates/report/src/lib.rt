@@ -18,9 +18,9 @@ ghost use mathlib.Core.List.{[]};
 ghost use Prim.Native.Nat.{_≤_, _^_};
 ghost use lib.ListN.{length, drop};
 ghost use Rattle.sequences.specs.Stored.{cap};
+ghost use Rattle.reading.specs.Texts.{bytes};
 ghost use Rattle.lexis_rules.specs.Limits.{byteLimit};
 ghost use Rattle.authserv.specs.Answers.{identifierAt};
-ghost use Rattle.resinfo_rules.specs.Results.{one};
 ghost use Rattle.resinfo.specs.Parts.{spaced};
 ghost use Rattle.body.specs.Body.{wordNone, payload, headed, reading};
 ghost use Rattle.body.specs.Report.{report};
@@ -92,7 +92,7 @@ fn put_payload(s: &[u8], at: usize, out: &mut [u8], to: usize) -> Reported
 // The same where it has to be asked first what follows the head.
 fn put_version_one(s: &[u8], at: usize, out: &mut [u8], to: usize) -> Reported
     requires { ⌜ (length (now s) ≤ byteLimit) × (to ≤ 2 ^ 32) ⌝ }
-    ensures { λ r. ⌜ Behind (headed (record { identifier = []; version = one }) (drop at (now (s .entry)))) (now (out .entry)) to (now (out .exit)) r ⌝ }
+    ensures { λ r. ⌜ Behind (headed (record { identifier = []; version = bytes "1" }) (drop at (now (s .entry)))) (now (out .entry)) to (now (out .exit)) r ⌝ }
 {
     if authserv::delimited(s, at) {
         return put_payload(s, at, out, to);
@@ -123,8 +123,8 @@ fn put_headed(s: &[u8], at: usize, out: &mut [u8], to: usize) -> Reported
     ensures { λ r. ⌜ Behind (headedAt (now (s .entry)) at) (now (out .entry)) to (now (out .exit)) r ⌝ }
 {
     match authserv::version_at(s, at) {
-        Version::Stated { start, end, one } => {
-            if one {
+        Version::Stated { start, end, number } => {
+            if lexis::is_one(number) {
                 return put_version_one(s, end, out, to);
             }
             put_newer(s, start, end, out, to)

@@ -5,6 +5,7 @@
 //
 // The space behind each part is read once: with the place where a part ends (`at`, `end`) goes the place where the space behind it ends
 // (`gap`).
+use lexis_rules::VersionNumber;
 use resinfo::Step;
 use resinfo::parts::Method;
 use resinfo::parts::Reason;
@@ -17,7 +18,7 @@ ghost use Rattle.reading.specs.Places.{listAt};
 ghost use Rattle.lexis_rules.specs.Limits.{byteLimit};
 ghost use Rattle.lexis_rules.specs.Bytes.{lower};
 ghost use Rattle.resinfo_rules.specs.Results.{reason, property};
-ghost use Rattle.resinfo_rules.specs.Table.{listed, tabled, table, ptypes};
+ghost use Rattle.resinfo_rules.specs.Table.{listed, tabled, table, ptypes, knownVersion};
 ghost use Rattle.resinfo.specs.Parts.{spaced};
 ghost use Rattle.body.specs.Body.{resinfo};
 ghost use Rattle.body.specs.Report.{reasonLine, propertyLines, lines};
@@ -42,11 +43,11 @@ fn knows_ptype(known: bool, ptype: &[u8]) -> bool
     false
 }
 
-// Whether the version of a method is 1, and its result stands in its row.
-fn knows_method(one: bool, method: &[u8], result: &[u8]) -> bool
-    ensures { λ r. ⌜ r ≡ (one && tabled table (map lower (now (method .entry))) (map lower (now (result .entry)))) ⌝ }
+// Whether the version of a method is understood, and its result stands in its row.
+fn knows_method(version: VersionNumber, method: &[u8], result: &[u8]) -> bool
+    ensures { λ r. ⌜ r ≡ (knownVersion (map lower (now (method .entry))) version && tabled table (map lower (now (method .entry))) (map lower (now (result .entry)))) ⌝ }
 {
-    if one {
+    if lexis::is_one(version) {
         return methods::is_tabled(method, result);
     }
     false
@@ -158,11 +159,11 @@ fn put_result(s: &[u8], at: usize, gap: usize, out: &mut [u8], to: usize) -> Tur
         Method::Read {
             start,
             end,
-            one,
+            version,
             result_start,
             result_end,
         } => {
-            let known = knows_method(one, &s[start..end], &s[result_start..result_end]);
+            let known = knows_method(version, &s[start..end], &s[result_start..result_end]);
             let n = report_lines::put_method(s, start, end, result_start, result_end, out, to);
             let d = put_details(s, result_end, out, n);
             Turn::Read {

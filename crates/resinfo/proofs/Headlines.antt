@@ -8,15 +8,15 @@ use lib.ListN.{drop}
 use Rattle.reading.specs.Places.{from}
 use Rattle.resinfo_rules.specs.Results.{methodspec, reason, property}
 use Rattle.resinfo.specs.declared.Step.the-variants as step
-use Rattle.resinfo.specs.Parts.{methodAt, methodGot, told, reasonAt, reasonGot, labelAt, labelGot, names}
+use Rattle.resinfo.specs.Parts.{methodAt, methodGot, reasonAt, reasonGot, labelAt, labelGot, names}
 use Rattle.resinfo.specs.Steps.{closes, stepAt, propertyGot}
 use Rattle.resinfo.proofs.Methods as methods
 use Rattle.resinfo.proofs.Reasons as reasons
 use Rattle.resinfo.proofs.Labels as labels
 use Rattle.resinfo.proofs.Steps as steps
 
--- `parts::method_at`: a method and its result, and of its version whether it is 1
-pub method-got : (s : List ℕ) (at : ℕ) → methodGot s (methodAt s at) ≡ told (from methodspec s at)
+-- `parts::method_at`: a method, its version and its result
+pub method-got : (s : List ℕ) (at : ℕ) → methodGot s (methodAt s at) ≡ from methodspec s at
 method-got = methods.method-got
 
 -- `parts::reason_from`: a reason

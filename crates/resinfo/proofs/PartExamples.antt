@@ -2,17 +2,19 @@
 use Prim.Native.Char.{code}
 use Prim.Native.Nat.{ℕ}
 use mathlib.Core.Path.{refl}
-use mathlib.Core.Bool.{Bool, true, false}
+use mathlib.Core.Bool.{true, false}
 use mathlib.Core.List.{List, [], _∷_}
 use Rattle.reading.specs.Texts.{bytes}
 use Rattle.reading.specs.Parsers.{Got, nothing, got}
 use Rattle.reading.proofs.Cases.{Case, case, Says}
+use Rattle.lexis_rules.specs.declared.VersionNumber.{VersionNumber}
+use Rattle.lexis_rules.specs.declared.VersionNumber.the-variants.{Exact, Large}
 use Rattle.lexis_rules.specs.Answers.{valueAt}
 use Rattle.resinfo.specs.declared.parts.Method.the-variants as method
 use Rattle.resinfo.specs.declared.parts.Reason.the-variants.{Stated, Absent}
 use Rattle.resinfo.specs.declared.parts.Label.the-variants as label
-use Rattle.resinfo_rules.specs.Results.{methodspec, reason}
-use Rattle.resinfo.specs.Parts.{marked, markedFrom, past, methodVersionAt, resultAt, methodAt, Told, told, methodGot, reasonFrom, reasonAt, reasonGot, Names, names, namesAt, labelFrom, labelAt, labelGot}
+use Rattle.resinfo_rules.specs.Results.{Methodspec, methodspec, reason}
+use Rattle.resinfo.specs.Parts.{marked, markedFrom, past, methodVersionAt, resultAt, methodAt, methodGot, reasonFrom, reasonAt, reasonGot, Names, names, namesAt, labelFrom, labelAt, labelGot}
 use Rattle.resinfo_rules.proofs.Opened as definitions
 
 unfoldable pub opened : Unit {0}
@@ -45,21 +47,23 @@ marksAsked = refl
 
 -- ==== method, version and result
 
--- method, whether its version is 1, result, and how many bytes they take
-abbrev tells : List ℕ → Bool → List ℕ → ℕ → Got Told
-tells m o r n = got (record { method = m; one = o; result = r }) n
+-- method, the number of its version, result, and how many bytes they take
+abbrev tells : List ℕ → VersionNumber → List ℕ → ℕ → Got Methodspec
+tells m v r n = got (record { method = m; version = v; result = r }) n
 
-abbrev methodTexts : List (Case (Got Told))
+abbrev methodTexts : List (Case (Got Methodspec))
 methodTexts =
-    case (bytes "dkim=pass") (tells (bytes "dkim") true (bytes "pass") 9)
-    ∷ case (bytes "dkim/1=pass") (tells (bytes "dkim") true (bytes "pass") 11)
-    ∷ case (bytes "dkim/2=pass") (tells (bytes "dkim") false (bytes "pass") 11)
-    ∷ case (bytes "dkim/001=pass") (tells (bytes "dkim") true (bytes "pass") 13)
-    ∷ case (bytes "dkim/11=pass") (tells (bytes "dkim") false (bytes "pass") 12)
-    ∷ case (bytes "dkim/10=pass") (tells (bytes "dkim") false (bytes "pass") 12)
-    ∷ case (bytes "dkim/0=pass") (tells (bytes "dkim") false (bytes "pass") 11)
-    ∷ case (bytes "SPF (c) / 1 = (d)\tPass x") (tells (bytes "spf") true (bytes "pass") 22)
-    ∷ case (bytes "none=pass") (tells (bytes "none") true (bytes "pass") 9)
+    case (bytes "dkim=pass") (tells (bytes "dkim") (Exact 1) (bytes "pass") 9)
+    ∷ case (bytes "dkim/1=pass") (tells (bytes "dkim") (Exact 1) (bytes "pass") 11)
+    ∷ case (bytes "dkim/2=pass") (tells (bytes "dkim") (Exact 2) (bytes "pass") 11)
+    ∷ case (bytes "dkim/001=pass") (tells (bytes "dkim") (Exact 1) (bytes "pass") 13)
+    ∷ case (bytes "dkim/11=pass") (tells (bytes "dkim") (Exact 11) (bytes "pass") 12)
+    ∷ case (bytes "dkim/10=pass") (tells (bytes "dkim") (Exact 10) (bytes "pass") 12)
+    ∷ case (bytes "dkim/0=pass") (tells (bytes "dkim") (Exact 0) (bytes "pass") 11)
+    ∷ case (bytes "dkim/0999999=pass") (tells (bytes "dkim") (Exact 999999) (bytes "pass") 17)
+    ∷ case (bytes "dkim/1000000=pass") (tells (bytes "dkim") Large (bytes "pass") 17)
+    ∷ case (bytes "SPF (c) / 1 = (d)\tPass x") (tells (bytes "spf") (Exact 1) (bytes "pass") 22)
+    ∷ case (bytes "none=pass") (tells (bytes "none") (Exact 1) (bytes "pass") 9)
     ∷ case (bytes "dkim/=pass") nothing
     ∷ case (bytes "dkim/x=pass") nothing
     ∷ case (bytes "dkim/1x=pass") nothing
@@ -73,7 +77,7 @@ methodTexts =
     ∷ []
 
 -- the same table from the parser and from the places
-parsed : Says (λ s. told (methodspec s)) methodTexts
+parsed : Says methodspec methodTexts
 unfolding opened
 parsed = refl
 
@@ -83,8 +87,8 @@ found = refl
 
 places :
     Says (λ s. methodAt s 2)
-    (case (bytes "; dkim = pass") (method.Read 2 6 true 9 13)
-    ∷ case (bytes "; dkim/2=fail") (method.Read 2 6 false 9 13)
+    (case (bytes "; dkim = pass") (method.Read 2 6 (Exact 1) 9 13)
+    ∷ case (bytes "; dkim/2=fail") (method.Read 2 6 (Exact 2) 9 13)
     ∷ case (bytes ";") method.Missing
     ∷ [])
 unfolding opened

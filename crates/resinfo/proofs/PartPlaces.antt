@@ -8,6 +8,7 @@ use mathlib.Core.List.{List}
 use lib.ListN.{length, drop, length-drop}
 use Rattle.reading.specs.Readers.{Reader}
 use Rattle.reading.specs.Locality.{Fits}
+use Rattle.lexis_rules.specs.declared.VersionNumber.{VersionNumber}
 use Rattle.lexis_rules.specs.Pieces.{space, keyword, digits}
 use Rattle.lexis_rules.proofs.Pieces.{space-fits, keyword-fits}
 use Rattle.resinfo.specs.declared.parts.MethodVersion.{MethodVersion}
@@ -69,8 +70,8 @@ module _ (s : List ℕ) (at : ℕ) where
         inside = ends-inside keyword keyword-fits s f g r l;
       })))
 
-  pub method-places : (a e : ℕ) (o : Bool) (f g : ℕ) → method.Read a e o f g ≡ methodAt s at → MethodPlaces s at a e f g
-  method-places a e o f g h = subst (λ (m : Method). MethodStands s at m) (sym h) method-stands
+  pub method-places : (a e : ℕ) (v : VersionNumber) (f g : ℕ) → method.Read a e v f g ≡ methodAt s at → MethodPlaces s at a e f g
+  method-places a e v f g h = subst (λ (m : Method). MethodStands s at m) (sym h) method-stands
 
 -- ==== what stands before a property value
 

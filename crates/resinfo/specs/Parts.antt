@@ -6,13 +6,15 @@ use mathlib.Core.Bool.{Bool, true, false}
 use mathlib.Core.List.{List}
 use lib.Dec.{eqb}
 use lib.ListN.{drop}
-use Rattle.reading.specs.Texts.{bytes, same}
+use Rattle.reading.specs.Texts.{bytes}
 use Rattle.reading.specs.Readers.{Reader, passing}
 use Rattle.reading.specs.Parsers.{Got, nothing, got, Parser, _>>=_, _>>_, give}
 use Rattle.lexis_rules.specs.declared.Value.{Value}
 use Rattle.lexis_rules.specs.declared.Value.the-variants.{Token, Quoted, Nothing}
+use Rattle.lexis_rules.specs.declared.VersionNumber.{VersionNumber}
 use Rattle.lexis_rules.specs.Bytes.{alike}
-use Rattle.lexis_rules.specs.Pieces.{space, keyword, digits, isOne}
+use Rattle.lexis_rules.specs.Pieces.{space, keyword, digits}
+use Rattle.lexis_rules.specs.Numbers.{numberOf, one}
 use Rattle.lexis_rules.specs.Words.{quotedText, keywordText, gap, readKeyword}
 use Rattle.lexis_rules.specs.Answers.{valueAt}
 use Rattle.resinfo.specs.declared.parts.MethodVersion.{MethodVersion}
@@ -53,40 +55,30 @@ behind f s at z k = past at (at + f (drop at s)) z k
 
 -- ==== method, version and result
 
--- a version that ends at a place, and whether its number is 1
-abbrev pub versionTo : List ℕ → ℕ → Bool → MethodVersion
-versionTo s e o = record { end = e; gap = spaced s e; one = o }
+-- a version that ends at a place, with its number
+abbrev pub versionTo : List ℕ → ℕ → VersionNumber → MethodVersion
+versionTo s e v = record { end = e; gap = spaced s e; number = v }
 
 -- absent means 1
 abbrev pub unversioned : List ℕ → ℕ → MethodVersion
-unversioned s at = versionTo s at true
+unversioned s at = versionTo s at one
 
--- "/" and a digit run, if they can be read: the place after it, and whether its number is 1
+-- "/" and a digit run, if they can be read: the place after it, and its number
 unfoldable pub methodVersionAt : List ℕ → ℕ → MethodVersion
 methodVersionAt s at =
-    behind (marked (code "/")) s at (unversioned s at) (λ a. behind digits s a (unversioned s at) (λ e. versionTo s e (isOne (drop a s))))
+    behind (marked (code "/")) s at (unversioned s at) (λ a. behind digits s a (unversioned s at) (λ e. versionTo s e (numberOf (drop a s))))
 
 -- "=" at a place and a result keyword, behind a method from a up to e
 unfoldable pub resultAt : List ℕ → ℕ → ℕ → MethodVersion → Method
 resultAt s a e v =
-    behind (marked (code "=")) s (v .end) method.Missing (λ f. behind keyword s f method.Missing (λ g. method.Read a e (v .one) f g))
+    behind (marked (code "=")) s (v .end) method.Missing (λ f. behind keyword s f method.Missing (λ g. method.Read a e (v .number) f g))
 
 unfoldable pub methodAt : List ℕ → ℕ → Method
 methodAt s at = behind keyword s at method.Missing (λ e. resultAt s at e (methodVersionAt s e))
 
--- what is told of a method, its version and its result: of the version only whether it is 1
-pub record Told : Type 0 where
-  pub method : List ℕ
-  pub one : Bool
-  pub result : List ℕ
-
-abbrev pub told : Got Methodspec → Got Told
-told nothing = nothing
-told (got m n) = got (record { method = m .method; one = same (m .version) (bytes "1"); result = m .result }) n
-
--- the texts of a method and its result that were found, and the place after them
-abbrev pub methodGot : List ℕ → Method → Got Told
-methodGot s (method.Read a e o f g) = got (record { method = keywordText (span s a e); one = o; result = keywordText (span s f g) }) g
+-- the texts of a method and its result that were found, the number of the version, and the place after them
+abbrev pub methodGot : List ℕ → Method → Got Methodspec
+methodGot s (method.Read a e v f g) = got (record { method = keywordText (span s a e); version = v; result = keywordText (span s f g) }) g
 methodGot s method.Missing = nothing
 
 -- ==== the reason

@@ -6,6 +6,7 @@
 // What comes behind space is asked for by two places, that of the part before it and that where the space ends (`lexis::space_end`), so
 // that a caller who knows the second reads the space once. Where both are the same there is no space.
 use lexis_rules::Value;
+use lexis_rules::VersionNumber;
 ghost use mathlib.Core.Path.{_≡_};
 ghost use Prim.Native.Nat.{_+_};
 ghost use lib.ListN.{drop};
@@ -39,11 +40,11 @@ pub fn mark_from(s: &[u8], at: usize, a: usize, b: u8) -> usize
     at
 }
 
-// The version of a method: the place after it, where the space behind that ends, and whether its number is 1.
+// The version of a method: the place after it, where the space behind that ends, and its number.
 struct MethodVersion {
     end: usize,
     gap: usize,
-    one: bool,
+    number: VersionNumber,
 }
 
 // The version of a method that ends at a place. Where "/" and a digit run can't be read nothing is taken, and absent means 1.
@@ -56,7 +57,7 @@ fn method_version_at(s: &[u8], at: usize) -> MethodVersion
         return MethodVersion {
             end: at,
             gap,
-            one: true,
+            number: VersionNumber::Exact { number: 1 },
         };
     }
     let d = lexis::digits_at(s, a);
@@ -64,22 +65,23 @@ fn method_version_at(s: &[u8], at: usize) -> MethodVersion
         return MethodVersion {
             end: at,
             gap,
-            one: true,
+            number: VersionNumber::Exact { number: 1 },
         };
     }
+    let number = d.number;
     MethodVersion {
         end: d.end,
         gap: lexis::space_end(s, d.end),
-        one: d.one,
+        number,
     }
 }
 
-// A method from `start` up to `end`, whether its version is 1, and its result from `result_start` up to `result_end`.
+// A method from `start` up to `end`, the number of its version, and its result from `result_start` up to `result_end`.
 pub enum Method {
     Read {
         start: usize,
         end: usize,
-        one: bool,
+        version: VersionNumber,
         result_start: usize,
         result_end: usize,
     },
@@ -94,19 +96,20 @@ pub fn method_at(s: &[u8], at: usize) -> Method
     if end == at {
         return Method::Missing;
     }
-    let version = method_version_at(s, end);
-    let result_start = mark_from(s, version.end, version.gap, b'=');
-    if result_start == version.end {
+    let versioned = method_version_at(s, end);
+    let result_start = mark_from(s, versioned.end, versioned.gap, b'=');
+    if result_start == versioned.end {
         return Method::Missing;
     }
     let result_end = lexis::keyword_end(s, result_start);
     if result_end == result_start {
         return Method::Missing;
     }
+    let version = versioned.number;
     Method::Read {
         start: at,
         end,
-        one: version.one,
+        version,
         result_start,
         result_end,
     }

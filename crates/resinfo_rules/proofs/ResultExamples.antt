@@ -7,6 +7,8 @@ use mathlib.Core.Option.{Option, none, some}
 use Rattle.reading.specs.Texts.{bytes}
 use Rattle.reading.specs.Parsers.{Got, nothing, got}
 use Rattle.reading.proofs.Cases.{case, Says, copies}
+use Rattle.lexis_rules.specs.declared.VersionNumber.{VersionNumber}
+use Rattle.lexis_rules.specs.declared.VersionNumber.the-variants.{Exact, Large}
 use Rattle.resinfo_rules.specs.Results.{Kind, Token, Quoted, Mailbox, AtDomain, Property, Result, result}
 use Rattle.resinfo_rules.specs.Table.{understood}
 use Rattle.resinfo_rules.proofs.Opened.{opened}
@@ -16,18 +18,21 @@ use Rattle.resinfo_rules.proofs.Opened.{opened}
 abbrev of : Kind → List ℕ → List ℕ → List ℕ → Property
 of k t p v = record { ptype = t; property = p; value = record { kind = k; text = v } }
 
-abbrev said : List ℕ → List ℕ → List ℕ → Option (List ℕ) → List Property → ℕ → Got Result
+abbrev said : List ℕ → VersionNumber → List ℕ → Option (List ℕ) → List Property → ℕ → Got Result
 said m v r why ps n = got (record { methodspec = record { method = m; version = v; result = r }; reason = why; properties = ps }) n
 
 -- method, version and result: keywords in lower case, leading zeros not counted, absent means 1
 methods :
     Says result
-    (case (bytes ";SPF=Pass") (said (bytes "spf") (bytes "1") (bytes "pass") none [] 9)
-    ∷ case (bytes ";a/0012=b;") (said (bytes "a") (bytes "12") (bytes "b") none [] 9)
-    ∷ case (bytes ";a/00=b") (said (bytes "a") (bytes "0") (bytes "b") none [] 7)
-    ∷ case (bytes "; x-509 / 1 = y9 ") (said (bytes "x-509") (bytes "1") (bytes "y9") none [] 16)
-    ∷ case (bytes ";none=pass") (said (bytes "none") (bytes "1") (bytes "pass") none [] 10)
-    ∷ case (bytes ";none /1=pass") (said (bytes "none") (bytes "1") (bytes "pass") none [] 13)
+    (case (bytes ";SPF=Pass") (said (bytes "spf") (Exact 1) (bytes "pass") none [] 9)
+    ∷ case (bytes ";a/0012=b;") (said (bytes "a") (Exact 12) (bytes "b") none [] 9)
+    ∷ case (bytes ";a/00=b") (said (bytes "a") (Exact 0) (bytes "b") none [] 7)
+    ∷ case (bytes ";a/999999=b") (said (bytes "a") (Exact 999999) (bytes "b") none [] 11)
+    ∷ case (bytes ";a/0999999=b") (said (bytes "a") (Exact 999999) (bytes "b") none [] 12)
+    ∷ case (bytes ";a/1000000=b") (said (bytes "a") Large (bytes "b") none [] 12)
+    ∷ case (bytes "; x-509 / 1 = y9 ") (said (bytes "x-509") (Exact 1) (bytes "y9") none [] 16)
+    ∷ case (bytes ";none=pass") (said (bytes "none") (Exact 1) (bytes "pass") none [] 10)
+    ∷ case (bytes ";none /1=pass") (said (bytes "none") (Exact 1) (bytes "pass") none [] 13)
     ∷ [])
 unfolding opened
 methods = refl
@@ -60,21 +65,21 @@ noMethods = refl
 -- a reason: after non-empty space, one value, before the properties
 reasons :
     Says result
-    (case (bytes ";a=b reason=c") (said (bytes "a") (bytes "1") (bytes "b") (some (bytes "c")) [] 13)
-    ∷ case (bytes ";a=b(x)REASON = \"c;\\\" D\";") (said (bytes "a") (bytes "1") (bytes "b") (some (bytes "c;\" D")) [] 24)
-    ∷ case (bytes ";a=b reason=\"\"") (said (bytes "a") (bytes "1") (bytes "b") (some []) [] 14)
-    ∷ case (bytes ";a=breason=c") (said (bytes "a") (bytes "1") (bytes "breason") none [] 10)
-    ∷ case (bytes ";a=b reason") (said (bytes "a") (bytes "1") (bytes "b") none [] 4)
-    ∷ case (bytes ";a=b reason=") (said (bytes "a") (bytes "1") (bytes "b") none [] 4)
-    ∷ case (bytes ";a=b reason=@c.d") (said (bytes "a") (bytes "1") (bytes "b") none [] 4)
-    ∷ case (bytes ";a=b reasons=c") (said (bytes "a") (bytes "1") (bytes "b") none [] 4)
-    ∷ case (bytes ";a=b reason=c reason=d") (said (bytes "a") (bytes "1") (bytes "b") (some (bytes "c")) [] 13)
+    (case (bytes ";a=b reason=c") (said (bytes "a") (Exact 1) (bytes "b") (some (bytes "c")) [] 13)
+    ∷ case (bytes ";a=b(x)REASON = \"c;\\\" D\";") (said (bytes "a") (Exact 1) (bytes "b") (some (bytes "c;\" D")) [] 24)
+    ∷ case (bytes ";a=b reason=\"\"") (said (bytes "a") (Exact 1) (bytes "b") (some []) [] 14)
+    ∷ case (bytes ";a=breason=c") (said (bytes "a") (Exact 1) (bytes "breason") none [] 10)
+    ∷ case (bytes ";a=b reason") (said (bytes "a") (Exact 1) (bytes "b") none [] 4)
+    ∷ case (bytes ";a=b reason=") (said (bytes "a") (Exact 1) (bytes "b") none [] 4)
+    ∷ case (bytes ";a=b reason=@c.d") (said (bytes "a") (Exact 1) (bytes "b") none [] 4)
+    ∷ case (bytes ";a=b reasons=c") (said (bytes "a") (Exact 1) (bytes "b") none [] 4)
+    ∷ case (bytes ";a=b reason=c reason=d") (said (bytes "a") (Exact 1) (bytes "b") (some (bytes "c")) [] 13)
     ∷ case (bytes ";a=b x.y=z reason=c")
-    (said (bytes "a") (bytes "1") (bytes "b") none (of Token (bytes "x") (bytes "y") (bytes "z") ∷ []) 10)
+    (said (bytes "a") (Exact 1) (bytes "b") none (of Token (bytes "x") (bytes "y") (bytes "z") ∷ []) 10)
     ∷ case (bytes ";a=b reason.y=z")
-    (said (bytes "a") (bytes "1") (bytes "b") none (of Token (bytes "reason") (bytes "y") (bytes "z") ∷ []) 15)
+    (said (bytes "a") (Exact 1) (bytes "b") none (of Token (bytes "reason") (bytes "y") (bytes "z") ∷ []) 15)
     ∷ case (bytes ";a=b reason=c x.y=z")
-    (said (bytes "a") (bytes "1") (bytes "b") (some (bytes "c")) (of Token (bytes "x") (bytes "y") (bytes "z") ∷ []) 19)
+    (said (bytes "a") (Exact 1) (bytes "b") (some (bytes "c")) (of Token (bytes "x") (bytes "y") (bytes "z") ∷ []) 19)
     ∷ [])
 unfolding opened
 reasons = refl
@@ -83,16 +88,16 @@ reasons = refl
 properties :
     Says result
     (case (bytes ";a=b SMTP.Mail-From=C@d.e ;")
-    (said (bytes "a") (bytes "1") (bytes "b") none (of Mailbox (bytes "smtp") (bytes "mail-from") (bytes "C@d.e") ∷ []) 25)
+    (said (bytes "a") (Exact 1) (bytes "b") none (of Mailbox (bytes "smtp") (bytes "mail-from") (bytes "C@d.e") ∷ []) 25)
     ∷ case (bytes ";a=b(x)w.x=\"y\" w.z=@c.d\t")
-    (said (bytes "a") (bytes "1") (bytes "b") none
+    (said (bytes "a") (Exact 1) (bytes "b") none
     (of Quoted (bytes "w") (bytes "x") (bytes "y") ∷ of AtDomain (bytes "w") (bytes "z") (bytes "@c.d") ∷ []) 23)
-    ∷ case (bytes ";a=b w.x=\"y\"w.z=c") (said (bytes "a") (bytes "1") (bytes "b") none (of Quoted (bytes "w") (bytes "x") (bytes "y") ∷ []) 12)
-    ∷ case (bytes ";a=b reason=\"y\"w.z=c") (said (bytes "a") (bytes "1") (bytes "b") (some (bytes "y")) [] 15)
-    ∷ case (bytes ";a=b w.x=") (said (bytes "a") (bytes "1") (bytes "b") none [] 4)
-    ∷ case (bytes ";a=b w.=y") (said (bytes "a") (bytes "1") (bytes "b") none [] 4)
-    ∷ case (bytes ";a=b w=y") (said (bytes "a") (bytes "1") (bytes "b") none [] 4)
-    ∷ case (bytes ";a=b .x=y") (said (bytes "a") (bytes "1") (bytes "b") none [] 4)
+    ∷ case (bytes ";a=b w.x=\"y\"w.z=c") (said (bytes "a") (Exact 1) (bytes "b") none (of Quoted (bytes "w") (bytes "x") (bytes "y") ∷ []) 12)
+    ∷ case (bytes ";a=b reason=\"y\"w.z=c") (said (bytes "a") (Exact 1) (bytes "b") (some (bytes "y")) [] 15)
+    ∷ case (bytes ";a=b w.x=") (said (bytes "a") (Exact 1) (bytes "b") none [] 4)
+    ∷ case (bytes ";a=b w.=y") (said (bytes "a") (Exact 1) (bytes "b") none [] 4)
+    ∷ case (bytes ";a=b w=y") (said (bytes "a") (Exact 1) (bytes "b") none [] 4)
+    ∷ case (bytes ";a=b .x=y") (said (bytes "a") (Exact 1) (bytes "b") none [] 4)
     ∷ [])
 unfolding opened
 properties = refl
@@ -100,9 +105,9 @@ properties = refl
 -- space is allowed between any two parts
 spaced :
     Says result
-    (case (bytes "; a / 1 = b reason = c x . y = z") (said (bytes "a") (bytes "1") (bytes "b") (some (bytes "c")) (of Token (bytes "x") (bytes "y") (bytes "z") ∷ []) 32)
+    (case (bytes "; a / 1 = b reason = c x . y = z") (said (bytes "a") (Exact 1) (bytes "b") (some (bytes "c")) (of Token (bytes "x") (bytes "y") (bytes "z") ∷ []) 32)
     ∷ case (bytes ";(;)a(=)/\t1\r\n =(b)b (c)reason()=()c()x().()y()=()z")
-    (said (bytes "a") (bytes "1") (bytes "b") (some (bytes "c")) (of Token (bytes "x") (bytes "y") (bytes "z") ∷ []) 50)
+    (said (bytes "a") (Exact 1) (bytes "b") (some (bytes "c")) (of Token (bytes "x") (bytes "y") (bytes "z") ∷ []) 50)
     ∷ [])
 unfolding opened
 spaced = refl
@@ -122,6 +127,10 @@ versions :
     ∷ case (bytes ";dkim/2=pass") (got false 12)
     ∷ case (bytes ";dkim/10=pass") (got false 13)
     ∷ case (bytes ";dkim/0=pass") (got false 12)
+    ∷ case (bytes ";dkim/00=pass") (got false 13)
+    ∷ case (bytes ";dkim/999999=pass") (got false 17)
+    ∷ case (bytes ";dkim/1000000=pass") (got false 18)
+    ∷ case (bytes ";dkim/1000001=pass") (got false 18)
     ∷ case (bytes ";dkim/=pass") nothing
     ∷ case (bytes ";dkim/x=pass") nothing
     ∷ [])

@@ -18,10 +18,11 @@ use Rattle.reading.proofs.Bounds.{within-weaker, bind-within, give-within, byte
 use Rattle.reading.proofs.Openings.{bind-opens, byte-opens, optional-opens, opens-weaker, zero-front, bind-front, optional-front, several-front}
 use Rattle.reading.proofs.Steadiness.{steady-weaker, bind-steady, then-steady, map-steady, byte-steady, optional-steady, several-steady}
 use Rattle.lexis_rules.specs.declared.Class.the-variants.{Digit, Keyword, Token}
+use Rattle.lexis_rules.specs.declared.VersionNumber.{VersionNumber}
 use Rattle.lexis_rules.specs.Bytes.{inClass}
 use Rattle.lexis_rules.specs.Pieces.{space, token, digits}
-use Rattle.lexis_rules.specs.Words.{skip, gap, readValue, readKeyword, readWord, readDigits}
-use Rattle.lexis_rules.proofs.Steadiness.{skip-within, skip-steady, gap-within, gap-steady, opensValue, value-within, value-opens, value-steady, keyword-within, keyword-opens, keyword-steady, word-within, word-opens, word-steady, digits-within, digits-opens, digits-steady}
+use Rattle.lexis_rules.specs.Words.{skip, gap, readValue, readKeyword, readWord, readNumber}
+use Rattle.lexis_rules.proofs.Steadiness.{skip-within, skip-steady, gap-within, gap-steady, opensValue, value-within, value-opens, value-steady, keyword-within, keyword-opens, keyword-steady, word-within, word-opens, word-steady, number-within, number-opens, number-steady}
 use Rattle.resinfo_rules.specs.Results.{Value, Property, Methodspec, Result, mark, orOne, propertyValue, methodVersion, methodspec, reason, property, result}
 use Rattle.resinfo_rules.proofs.Opened.{opened}
 use Rattle.resinfo_rules.proofs.Following.{Delimited, Closed, solid, delimited-ends, gap-delimited, mark-within, mark-steady, mark-ends, mark-other, closed-delimited, closed-gap}
@@ -55,47 +56,47 @@ mark-whole q = mark-ends 61 q (inClass Keyword) refl
 
 pub method-version-within : Within 1 methodVersion
 unfolding methodVersion
-method-version-within = bind-within 1 (mark 47) (λ u. readDigits) (mark-within 47) (λ u. within-weaker 0 1 readDigits digits-within (omega arith))
+method-version-within = bind-within 1 (mark 47) (λ u. readNumber) (mark-within 47) (λ u. within-weaker 0 1 readNumber number-within (omega arith))
 
 method-version-opens : Opens methodVersion Whole
 unfolding methodVersion opened
-method-version-opens = mark-ends 47 readDigits (inClass Keyword) refl
+method-version-opens = mark-ends 47 readNumber (inClass Keyword) refl
 
 pub method-version-steady : Steady methodVersion (Ends digits)
 unfolding methodVersion opened
 method-version-steady =
-    then-steady (mark 47) (λ u. readDigits) (Ends space) (Ends digits) (mark-steady 47 refl) (λ u. digits-steady)
-    (λ u. opens-weaker readDigits (Starts (inClass Digit)) (Ends space) (solid (inClass Digit) refl) digits-opens)
+    then-steady (mark 47) (λ u. readNumber) (Ends space) (Ends digits) (mark-steady 47 refl) (λ u. number-steady)
+    (λ u. opens-weaker readNumber (Starts (inClass Digit)) (Ends space) (solid (inClass Digit) refl) number-opens)
 
 -- "=" ends a digit run, and is no version
 equals-no-version : {B : Type 0} (q : Parser B) → Opens (_>>_ (mark 61) q) (λ t. Ends digits t × (methodVersion t ≡ nothing))
 unfolding methodVersion
 equals-no-version q xs b n h =
     let v = bind-inv (mark 61) (λ u. q) xs b n h in
-    (ends xs b n h, bind-none (mark 47) (λ u. readDigits) xs (mark-other 61 47 refl xs (v .val) (v .fst) (v .reads)))
+    (ends xs b n h, bind-none (mark 47) (λ u. readNumber) xs (mark-other 61 47 refl xs (v .val) (v .fst) (v .reads)))
   where
     ends : Opens (_>>_ (mark 61) q) (Ends digits)
     ends = unfold opened in mark-ends 61 q (inClass Digit) refl
 
 module _ (m : List ℕ) where
-  abbrev specified : Option (List ℕ) → List ℕ → Methodspec
+  abbrev specified : Option VersionNumber → List ℕ → Methodspec
   specified v r = record { method = m; version = orOne v; result = r }
 
   -- from the result on, and from "=" on
-  abbrev Keyworded : Option (List ℕ) → Parser Methodspec
+  abbrev Keyworded : Option VersionNumber → Parser Methodspec
   Keyworded v = _>>=_ readKeyword (λ r. give (specified v r))
 
-  abbrev Equalled : Option (List ℕ) → Parser Methodspec
+  abbrev Equalled : Option VersionNumber → Parser Methodspec
   Equalled v = _>>_ (mark 61) (Keyworded v)
 
-  equalled-within : (v : Option (List ℕ)) → Within 0 (Equalled v)
+  equalled-within : (v : Option VersionNumber) → Within 0 (Equalled v)
   equalled-within v =
       within-weaker 0 1 (Equalled v)
       (bind-within 1 (mark 61) (λ u. Keyworded v) (mark-within 61)
       (λ u. within-weaker 0 1 (Keyworded v) (bind-within 1 readKeyword (λ r. give (specified v r)) keyword-within (λ r. give-within (specified v r))) (omega arith)))
       (omega arith)
 
-  equalled-steady : (v : Option (List ℕ)) → Steady (Equalled v) Whole
+  equalled-steady : (v : Option VersionNumber) → Steady (Equalled v) Whole
   equalled-steady v =
       then-steady (mark 61) (λ u. Keyworded v) (Ends space) Whole (mark-steady 61 refl) (λ u. map-steady readKeyword (specified v) Whole keyword-steady)
       (λ u. bind-opens readKeyword (λ r. give (specified v r)) (Ends space) keyword-solid)

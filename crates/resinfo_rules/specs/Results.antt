@@ -11,9 +11,11 @@ use Rattle.reading.specs.Texts.{bytes, oneOf, same, starts}
 use Rattle.reading.specs.Readers.{Reader, run, passing}
 use Rattle.reading.specs.Parsers.{Parser, _>>=_, _>>_, give, when, byte, taken, text, branch, optional, several}
 use Rattle.lexis_rules.specs.declared.Class.the-variants.{Digit, Keyword}
+use Rattle.lexis_rules.specs.declared.VersionNumber.{VersionNumber}
 use Rattle.lexis_rules.specs.Bytes.{inClass, letter}
 use Rattle.lexis_rules.specs.Pieces.{token, quoted}
-use Rattle.lexis_rules.specs.Words.{quotedText, skip, gap, readValue, readKeyword, readWord, readDigits}
+use Rattle.lexis_rules.specs.Words.{quotedText, skip, gap, readValue, readKeyword, readWord, readNumber}
+use Rattle.lexis_rules.specs.Numbers.{one}
 
 -- ==== what a result says
 
@@ -32,10 +34,10 @@ pub record Property : Type 0 where
   pub property : List ℕ
   pub value : Value
 
--- method, method version (its digits without leading zeros, 1 if absent) and result (RFC 8601: methodspec)
+-- method, method version (its number, 1 if absent) and result (RFC 8601: methodspec)
 pub record Methodspec : Type 0 where
   pub method : List ℕ
-  pub version : List ℕ
+  pub version : VersionNumber
   pub result : List ℕ
 
 -- a result: method, version and result, a reason if there is one, properties
@@ -57,12 +59,8 @@ mark c = do
 abbrev pub next : ℕ → List ℕ → Bool
 next c = starts (λ b. eqb b c)
 
--- the digits of the version 1
-abbrev pub one : List ℕ
-one = bytes "1"
-
 -- absent means 1
-unfoldable pub orOne : Option (List ℕ) → List ℕ
+unfoldable pub orOne : Option VersionNumber → VersionNumber
 orOne none = one
 orOne (some v) = v
 
@@ -153,10 +151,10 @@ propertyValue = branch atBehind address (branch (next (code "\"")) quotedValue t
 -- ==== results
 
 -- "/" and a digit run (method version, leading zeros not counted)
-unfoldable pub methodVersion : Parser (List ℕ)
+unfoldable pub methodVersion : Parser VersionNumber
 methodVersion = do
   mark (code "/")
-  readDigits
+  readNumber
 
 -- method, optionally "/" and a digit run, "=" and a result keyword
 unfoldable pub methodspec : Parser Methodspec

@@ -3,7 +3,9 @@ use Prim.Native.Nat.{ℕ}
 use mathlib.Core.Bool.{Bool, true, false, _&&_, _||_}
 use mathlib.Core.List.{List, [], _∷_}
 use Rattle.reading.specs.Texts.{bytes, same}
-use Rattle.resinfo_rules.specs.Results.{Property, Methodspec, Result, one}
+use Rattle.lexis_rules.specs.declared.VersionNumber.{VersionNumber}
+use Rattle.lexis_rules.specs.Numbers.{isOne}
+use Rattle.resinfo_rules.specs.Results.{Property, Methodspec, Result}
 
 -- a text is one of those listed
 unfoldable pub listed : List (List ℕ) → List ℕ → Bool
@@ -39,9 +41,9 @@ unfoldable pub tabled : List Row → List ℕ → List ℕ → Bool
 tabled [] m r = false
 tabled (w ∷ ws) m r = same (w .method) m && listed (w .results) r || tabled ws m r
 
--- its method version is 1: which versions of a method are understood stands here alone
-unfoldable pub knownVersion : List ℕ → List ℕ → Bool
-knownVersion method version = same version one
+-- its method version is 1: which versions of a method are understood, by their numbers, stands here alone
+unfoldable pub knownVersion : List ℕ → VersionNumber → Bool
+knownVersion method version = isOne version
 
 -- what is asked of method, version and result together
 unfoldable pub knownMethod : Methodspec → Bool

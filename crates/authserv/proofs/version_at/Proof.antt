@@ -17,7 +17,7 @@ returns-2 : tie.Need-returns-2
 returns-2 c = search version-no-digits
 
 returns-3 : tie.Need-returns-3
-returns-3 c = search version-stated
+returns-3 c = version-stated _ _ _ (c .before .before .before .before .space-end .ensures) (c .before .before .before .if1 .left) _ (c .before .before .digits-at .ensures) (c .if2 .left)
 
 pub version-at-spec : {M : Type 1} → statement M
 version-at-spec =

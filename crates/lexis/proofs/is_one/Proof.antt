@@ -1,23 +1,21 @@
--- `lexis::is_one` meets its contract: each test is one of the definition. Assumes nothing.
-use Rattle.lexis_rules.proofs.Numbers.{one-digit, not-one-digit, no-digits}
+-- `lexis::is_one` meets its contract, case by case. Assumes nothing.
+use mathlib.Core.Path.{sym, ap}
+use Rattle.lexis_rules.specs.Numbers.{isOne}
 use borrow.Author.Needs.{needs}
 use Rattle.lexis.proofs.is_one.Statement.{statement}
 use Rattle.lexis.proofs.is_one.Tie as tie
 
-sub-if2 : tie.Need-sub-if2
-sub-if2 c = search needs
+enum-known-number : tie.Need-enum-known-number
+enum-known-number c = search needs
 
-is-at-requires : tie.Need-is-at-requires
-is-at-requires c κs = search needs
+enum-told : tie.Need-enum-told
+enum-told c = search needs
 
 returns : tie.Need-returns
-returns c = search one-digit
+returns c = ap isOne (sym (c .before .number .given .1))
 
 returns-2 : tie.Need-returns-2
-returns-2 c = search not-one-digit
-
-returns-3 : tie.Need-returns-3
-returns-3 c = search no-digits
+returns-2 c = ap isOne (sym (c .enum-told .given .1))
 
 pub is-one-spec : {M : Type 1} → statement M
-is-one-spec = tie.close (tie.spec sub-if2 is-at-requires returns returns-2 returns-3)
+is-one-spec = tie.close (tie.spec enum-known-number enum-told returns returns-2)

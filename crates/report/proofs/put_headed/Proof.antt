@@ -24,6 +24,9 @@ version-at-requires c κs = search needs
 enum-known-start : tie.Need-enum-known-start
 enum-known-start c = search needs
 
+is-one-requires : tie.Need-is-one-requires
+is-one-requires c κs = search needs
+
 put-version-one-requires : tie.Need-put-version-one-requires
 put-version-one-requires c κs = search needs
 
@@ -32,13 +35,13 @@ same-length c = search needs
 
 returns : tie.Need-returns
 returns c =
-    one-stated _ _ _ _ _ _ _ (found (c .before .before .before .before .before)) (c .before .before .before .before .if1 .taken) _ _
+    one-stated _ _ _ _ _ _ _ (found (c .before .before .before .before .before .before)) _ (c .before .before .before .before .before .is-one .ensures) (c .before .before .before .before .if1 .taken) _ _
     (c .before .before .put-version-one .ensures)
 
 put-newer-requires : tie.Need-put-newer-requires
 put-newer-requires c κs =
-    other-room _ _ (c .before .before .before .before .before .before .before .before .args .out .now) _ _ _ _ (found (c .before .before))
-    (c .before .before .before .before .before .before .before .before .pre)
+    other-room _ _ (c .before .before .before .before .before .before .before .before .before .args .out .now) _ _ _ _ (found (c .before .before .before))
+    (c .before .before .before .before .before .before .before .before .before .pre)
 
 enum-told : tie.Need-enum-told
 enum-told c = search needs
@@ -51,7 +54,7 @@ same-length-2 c = search needs
 
 returns-2 : tie.Need-returns-2
 returns-2 c =
-    other-stated _ _ _ _ _ _ _ (found (c .before .before .before .before .before)) (c .before .before .before .before .if1 .left) _ _
+    other-stated _ _ _ _ _ _ _ (found (c .before .before .before .before .before .before)) _ (c .before .before .before .before .before .is-one .ensures) (c .before .before .before .before .if1 .left) _ _
     (c .before .before .put-newer .ensures)
 
 same-length-3 : tie.Need-same-length-3
@@ -66,6 +69,7 @@ put-headed-spec =
     (tie.spec
     version-at-requires
     enum-known-start
+    is-one-requires
     put-version-one-requires
     same-length
     returns

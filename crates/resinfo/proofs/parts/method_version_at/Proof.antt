@@ -23,7 +23,9 @@ space-end-requires-2 : tie.Need-space-end-requires-2
 space-end-requires-2 c κs = search needs
 
 returns-3 : tie.Need-returns-3
-returns-3 c = search version-stated
+returns-3 c =
+    version-stated _ _ _ (c .before .before .before .before .before .before .space-end .ensures) _ (c .before .before .before .before .before .mark-from .ensures) (c .before .before .before .before .if1 .left) _
+    (c .before .before .before .digits-at .ensures) (c .before .if2 .left) _ (c .space-end2 .ensures)
 
 pub method-version-at-spec : {M : Type 1} → statement M
 method-version-at-spec =

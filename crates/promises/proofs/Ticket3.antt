@@ -1,0 +1,58 @@
+-- 02, ticket [3], "Version numbers as numbers": what is promised of the number of a digit run, and that nothing else changed.
+-- Assumes nothing.
+use Prim.Native.Char.{code}
+use Prim.Native.Nat.{ℕ, _≤_, _<_}
+use native.Mathlib.Omega.{arith}
+use mathlib.Core.Path.{_≡_, refl, ap}
+use mathlib.Core.List.{List, _∷_}
+use lib.Dec.{lit≤}
+use lib.ListN.{length, getD, take}
+use Rattle.reading.specs.Texts.{bytes, same}
+use Rattle.lexis_rules.specs.declared.VersionNumber.the-variants.{Exact, Large}
+use Rattle.lexis_rules.specs.Pieces.{decimal}
+use Rattle.lexis_rules.specs.Words.{counted}
+use Rattle.lexis_rules.specs.Numbers.{largest, numberOf, isOne}
+use Rattle.lexis_rules.proofs.VersionNumbers as numbers
+use Rattle.body.specs.Newer.{Names, WithinLimit}
+use Rattle.body.proofs.Opened as body-opened
+use Rattle.body.proofs.Demand3 as demand3
+use Rattle.promises.specs.Calls.{reports}
+
+-- ==== It is to answer the number up to 999,999 and "large" above that
+
+pub number-exact : (xs : List ℕ) → decimal 0 xs ≤ largest → numberOf xs ≡ Exact (decimal 0 xs)
+number-exact xs = numbers.exact-is (decimal 0 xs)
+
+pub number-large : (xs : List ℕ) → largest < decimal 0 xs → numberOf xs ≡ Large
+number-large xs = numbers.large-is (decimal 0 xs)
+
+-- ==== leading zeros not counted
+
+pub number-zero : (xs : List ℕ) → numberOf (code "0" ∷ xs) ≡ numberOf xs
+number-zero = numbers.number-zero
+
+-- the number is that of the digits that count, which the `v` line shows
+pub number-counted : (xs : List ℕ) → numberOf (counted xs) ≡ numberOf xs
+number-counted = numbers.number-counted
+
+-- ==== Answers and reports in 01 stay the same
+
+-- a version was 1 where the digits that count are the one byte "1"; it is 1 by its number exactly there, for every digit run, and a large
+-- number is not 1
+pub one-same : (xs : List ℕ) → isOne (numberOf xs) ≡ same (counted xs) (bytes "1")
+one-same = numbers.one-same
+
+-- so demand 3 holds in its old words: header versions whose digits are not the one byte "1" (of method versions only the number is told)
+pub newer-header-digits : (b c v : List ℕ) (n m : ℕ) → Names b v n → Names c v m → (v ≡ bytes "1" → ⊥) → take n b ≡ take m c → WithinLimit b → WithinLimit c
+    → (old : List ℕ) → reports b old ≡ reports c old
+newer-header-digits b c v n m B C ne s l k old = rw (demand3.newer-header-digits b c v n m B C ne s l k (length old))
+
+-- a number that is large
+header-example : (old : List ℕ) → reports (bytes "a 01000000;;") old ≡ reports (bytes "a 01000000 x") old
+unfolding body-opened.opened
+header-example =
+    newer-header-digits (bytes "a 01000000;;") (bytes "a 01000000 x") (bytes "1000000") 10 10 (record { identifier = bytes "a"; reads = refl })
+    (record { identifier = bytes "a"; reads = refl }) other refl (lit≤ tt) (lit≤ tt)
+  where
+    other : bytes "1000000" ≡ bytes "1" → ⊥
+    other e = let z : _≡_ {A = ℕ} 48 0 = ap (λ (l : List ℕ). getD l 1 0) e in omega arith
