@@ -607,11 +607,14 @@ impl<'a> Cursor<'a> {
         Some(self.take(last + 1))
     }
 
-    /// Digit run, without its leading zeros; `0` if all are zeros.
-    fn digits(&mut self) -> Option<&'a [u8]> {
+    /// Digit run.
+    fn digits(&mut self) -> Option<Digits<'a>> {
         let run = self.run(|b| b.is_ascii_digit())?;
         let zeros = prefix(&run[..run.len() - 1], |b| b == b'0');
-        Some(&run[zeros..])
+        Some(Digits {
+            counted: &run[zeros..],
+            number: VersionNumber::of(run),
+        })
     }
 
     // "Identifier and header version"
@@ -627,10 +630,14 @@ impl<'a> Cursor<'a> {
         self.word_ends().then_some(text)
     }
 
-    fn header_version(&mut self) -> Option<&'a [u8]> {
+    /// Absent means 1.
+    fn header_version(&mut self) -> Option<Digits<'a>> {
         let spaced = self.space();
         if !spaced || !self.peek().is_some_and(|b| b.is_ascii_digit()) {
-            return Some(b"1");
+            return Some(Digits {
+                counted: b"1",
+                number: VersionNumber::ONE,
+            });
         }
         let version = self.digits()?;
         self.word_ends().then_some(version)
@@ -684,7 +691,7 @@ impl<'a> Cursor<'a> {
         let mut understood = true;
         if self.eat(b'/').is_some() {
             self.space();
-            understood = self.digits()? == b"1";
+            understood = self.digits()?.number == VersionNumber::ONE;
             self.space();
         }
         self.eat(b'=')?;
@@ -908,6 +915,36 @@ fn in_table(method: &[u8], result: &[u8]) -> bool {
         .is_some_and(|(_, results)| results.iter().any(|name| is(result, name)))
 }
 
+/// 02, ticket [3]: the number of a digit run up to 999,999, and "large" above that.
+#[derive(Clone, Copy, Debug, PartialEq, Eq)]
+enum VersionNumber {
+    Number(u32),
+    Large,
+}
+
+impl VersionNumber {
+    const LARGEST: u32 = 999_999;
+    const ONE: Self = VersionNumber::Number(1);
+
+    /// Digit by digit, until the number is too large. Leading zeros leave it at 0.
+    fn of(run: &[u8]) -> Self {
+        let mut number = 0;
+        for digit in run {
+            number = number * 10 + u32::from(digit - b'0');
+            if number > Self::LARGEST {
+                return VersionNumber::Large;
+            }
+        }
+        VersionNumber::Number(number)
+    }
+}
+
+/// A digit run: without its leading zeros, `0` if all are zeros, and its number.
+struct Digits<'a> {
+    counted: &'a [u8],
+    number: VersionNumber,
+}
+
 /// A body that can be reported.
 struct Body<'a> {
     id: Text<'a>,
@@ -953,10 +990,10 @@ fn read_body(bytes: &[u8]) -> Result<Body<'_>, u8> {
     let mut cursor = Cursor::new(bytes);
     let id = cursor.identifier().ok_or(number::BAD_IDENTIFIER)?;
     let version = cursor.header_version().ok_or(number::BAD_BODY)?;
-    let content = if version == b"1" {
+    let content = if version.number == VersionNumber::ONE {
         cursor.content().ok_or(number::BAD_BODY)?
     } else {
-        Content::OtherVersion(version)
+        Content::OtherVersion(version.counted)
     };
     Ok(Body { id, content })
 }

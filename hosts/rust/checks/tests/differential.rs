@@ -13,6 +13,7 @@ use std::time::{Duration, Instant};
 
 use common::edges::{self, plain_chain};
 use common::labels::{self, Wanted};
+use common::versions::{self, version};
 use common::{
     arc_field, block, body, chain, damaged, high_bytes, list, pad_block, setting, shown, tell, Rng,
     DEFAULT_SEED, HIGH_BYTES, LIMIT,
@@ -531,9 +532,25 @@ fn report() {
             assert_eq!(answer.number, number, "{}", shown(&bytes));
             tally.count(part.to_string());
         }
+        if rng.chance(5) {
+            let version = version(&mut rng);
+            let header = version.in_header(&mut rng);
+            let method = version.in_method(&mut rng);
+            for (place, (bytes, number, report)) in [("header", header), ("method", method)] {
+                run_report(&mut tally, &bytes);
+                let mut out = vec![0; 3 * bytes.len() + 8];
+                let answer = library::report(&bytes, &mut out);
+                assert_eq!(answer.number, number, "{}", shown(&bytes));
+                assert!(out[..answer.written] == report, "{}", shown(&bytes));
+                tally.count(format!("{place} version {}", version.kind));
+            }
+        }
     }
     let mut wanted = numbers(&[0, 1, 6, 7, 8, 9]);
     wanted.extend(HIGH_BYTES.iter().map(|(part, ..)| part.to_string()));
+    for kind in versions::KINDS {
+        wanted.extend(["header", "method"].map(|place| format!("{place} version {kind}")));
+    }
     wanted.push("number  0, ignored 0".to_string());
     wanted.push("number  0, ignored more".to_string());
     tally.finish(&wanted);

@@ -73,6 +73,32 @@ fn bodies() {
     expect_report("(x)a;none", 0, 0, "id\ta\nnone\n");
 }
 
+/// 02, ticket [3]: the number decides, and the `v` line has all the digits that count.
+#[test]
+fn version_numbers() {
+    let many = "1234567890".repeat(6_000);
+    let zeros = "0".repeat(59_999);
+    for (run, counted) in [
+        ("0", "0"),
+        ("00", "0"),
+        ("999999", "999999"),
+        ("0999999", "999999"),
+        ("1000000", "1000000"),
+        ("1000001", "1000001"),
+        (&many, &many),
+        (&format!("{zeros}2"), "2"),
+    ] {
+        let newer = format!("id\ta\nv\t{counted}\n");
+        expect_report(&format!("a {run}; none"), 8, 0, &newer);
+        expect_report(&format!("a; spf/{run}=pass"), 0, 1, "id\ta\n");
+    }
+    for run in ["1", "01", &format!("{zeros}1")] {
+        expect_report(&format!("a {run}; none"), 0, 0, "id\ta\nnone\n");
+        let understood = "id\ta\nm\tspf\tpass\n";
+        expect_report(&format!("a; spf/{run}=pass"), 0, 0, understood);
+    }
+}
+
 #[test]
 fn the_report_of_56_bytes() {
     let body = b" example.com; spf=pass smtp.mailfrom=example.net";

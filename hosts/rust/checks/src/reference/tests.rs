@@ -1,4 +1,4 @@
-//! What identifiers are compared by, on the reference alone.
+//! What identifiers are compared by and what digit runs tell, on the reference alone.
 
 #[path = "../../tests/common/punycode.rs"]
 mod encoder;
@@ -6,7 +6,7 @@ mod encoder;
 mod rfc_3492;
 
 use super::punycode::{decode, Failure};
-use super::{compared, own_list, u_labels, Cursor};
+use super::{compared, own_list, u_labels, Cursor, VersionNumber};
 use encoder::{a_label, encode, points};
 use rfc_3492::SAMPLES;
 
@@ -289,4 +289,29 @@ fn tokens_from_128_up() {
     let mut out = [0; 40];
     let written = super::report(b"b\xfc.xn--tda;none", &mut out).written;
     assert_eq!(&out[..written], b"id\tb%FC.xn--tda\nnone\n");
+}
+
+#[test]
+fn numbers_of_digit_runs() {
+    use VersionNumber::{Large, Number};
+    for (run, number) in [
+        ("0", Number(0)),
+        ("00", Number(0)),
+        ("1", Number(1)),
+        ("01", Number(1)),
+        ("10", Number(10)),
+        ("999999", Number(999_999)),
+        ("0999999", Number(999_999)),
+        ("1000000", Large),
+        ("01000000", Large),
+        ("4294967297", Large),
+        ("18446744073709551617", Large),
+        (&"1234567890".repeat(6_000), Large),
+        (&("0".repeat(60_000) + "12"), Number(12)),
+    ] {
+        assert_eq!(VersionNumber::of(run.as_bytes()), number, "{run:.40}");
+    }
+    let digits = Cursor::new(b"0012x").digits().unwrap();
+    assert_eq!((digits.counted, digits.number), (&b"12"[..], Number(12)));
+    assert!(Cursor::new(b"x1").digits().is_none());
 }

@@ -10,6 +10,7 @@ pub mod labels;
 pub mod lines;
 pub mod punycode;
 pub mod rfc_3492;
+pub mod versions;
 
 use std::fmt::Write;
 
@@ -275,6 +276,10 @@ pub fn other_number(rng: &mut Rng, out: &mut Vec<u8>) {
         b"340282366920938463463374607431768211457",
         b"4294967297",
         b"257",
+        b"999999",
+        b"0999999",
+        b"1000000",
+        b"01000001",
     ]));
 }
 
