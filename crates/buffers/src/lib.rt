@@ -23,6 +23,13 @@ pub const REPORTS: usize = 3 * Cursor::BYTES + 64 * Walk::FIELDS + 1;
 // whole gets a refusal of its own.
 pub const LINES: usize = 4 * Cursor::BYTES + 1;
 
+// A room for the reports of a block in words. Each of its lines stands for nine bytes of the block at least and has at most 17 bytes of words of its own, but
+// for the line of a field, which has at most 153 (`explained-long` in explain_rules/proofs/Headlines.antt).
+pub const EXPLAINED: usize = 524288;
+
+// A room for a judgement.
+pub const JUDGEMENT: usize = 512;
+
 // For a block, what is kept of it, or a body.
 pub fn block() -> [u8; BLOCK]
     ensures { λ r. ⌜ r ≡ replicate 65537 0 ⌝ }
@@ -53,4 +60,20 @@ pub fn lines() -> [u8; LINES]
     ensures { λ r. ⌜ 262145 ≡ length r ⌝ }
 {
     [0u8; LINES]
+}
+
+// For the reports of a block in words.
+pub fn explained() -> [u8; EXPLAINED]
+    ensures { λ r. ⌜ r ≡ replicate 524288 0 ⌝ }
+    ensures { λ r. ⌜ 524288 ≡ length r ⌝ }
+{
+    [0u8; EXPLAINED]
+}
+
+// For a judgement.
+pub fn judgement() -> [u8; JUDGEMENT]
+    ensures { λ r. ⌜ r ≡ replicate 512 0 ⌝ }
+    ensures { λ r. ⌜ 512 ≡ length r ⌝ }
+{
+    [0u8; JUDGEMENT]
 }

@@ -55,7 +55,7 @@ pub fn put_ending(ending: Ending, list: &[u8], out: &mut [u8], to: usize) -> usi
     match ending {
         Ending::Done => texts::put_part(b"orbendash: 0: done\n", out, to),
         Ending::Usage => texts::put_part(
-            b"orbendash: 64: usage: orbendash strip LIST < BLOCK, orbendash report LIST < BLOCK, orbendash write < LINES or orbendash --help\n",
+            b"orbendash: 64: usage: orbendash strip LIST < BLOCK, the same with report or explain, orbendash judge VERDICTS < BLOCK, orbendash write < LINES or orbendash --help\n",
             out,
             to,
         ),
@@ -82,6 +82,11 @@ pub fn put_ending(ending: Ending, list: &[u8], out: &mut [u8], to: usize) -> usi
         ),
         Ending::Unwritten => texts::put_part(
             b"orbendash: 74: standard output can't be written\n",
+            out,
+            to,
+        ),
+        Ending::VerdictsRefused => texts::put_part(
+            b"orbendash: 10: bad verdicts: a chain that is built needs one digit from 0 to 3 for each set, at 0\n",
             out,
             to,
         ),

@@ -14,6 +14,12 @@ pub fn asked(count: usize, word: &[u8]) -> Asked
         if same_bytes::is_same(word, b"report") {
             return Asked::Report;
         }
+        if same_bytes::is_same(word, b"explain") {
+            return Asked::Explain;
+        }
+        if same_bytes::is_same(word, b"judge") {
+            return Asked::Judge;
+        }
         return Asked::Nothing;
     }
     if count == 2 {

@@ -6,8 +6,8 @@ use Rattle.reading.specs.Texts.{bytes, same}
 use Rattle.reading.specs.Readers.{run}
 use Rattle.reading.proofs.Cases.{copies}
 use Rattle.decimals_rules.specs.Decimals.{digits, decimal}
-use Rattle.messages_rules.specs.declared.Asked.the-variants.{Strip, Report, Write, Nothing}
-use Rattle.messages_rules.specs.declared.Ending.the-variants.{Done, Usage, ListClosed, ListUnread, InputUnread, InputTooLong, OutputTooLong, Unwritten, Refused, LinesRefused}
+use Rattle.messages_rules.specs.declared.Asked.the-variants.{Strip, Report, Explain, Judge, Write, Nothing}
+use Rattle.messages_rules.specs.declared.Ending.the-variants.{Done, Usage, ListClosed, ListUnread, InputUnread, InputTooLong, OutputTooLong, Unwritten, VerdictsRefused, Refused, LinesRefused}
 use Rattle.messages_rules.specs.Words.{asked}
 use Rattle.messages_rules.specs.Messages.{feeds, feedless, fault, faultAt, meaning, linesMeaning, endingLine}
 
@@ -20,6 +20,14 @@ asks-strip = refl
 asks-report : asked 3 (bytes "report") ≡ Report
 unfolding asked same
 asks-report = refl
+
+asks-explain : asked 3 (bytes "explain") ≡ Explain
+unfolding asked same
+asks-explain = refl
+
+asks-judge : asked 3 (bytes "judge") ≡ Judge
+unfolding asked same
+asks-judge = refl
 
 asks-write : asked 2 (bytes "write") ≡ Write
 unfolding asked same
@@ -151,9 +159,13 @@ unfolding endingLine
 done = refl
 
 usage : endingLine Usage []
-    ≡ bytes "orbendash: 64: usage: orbendash strip LIST < BLOCK, orbendash report LIST < BLOCK, orbendash write < LINES or orbendash --help\n"
+    ≡ bytes "orbendash: 64: usage: orbendash strip LIST < BLOCK, the same with report or explain, orbendash judge VERDICTS < BLOCK, orbendash write < LINES or orbendash --help\n"
 unfolding endingLine
 usage = refl
+
+verdicts-refused : endingLine VerdictsRefused [] ≡ bytes "orbendash: 10: bad verdicts: a chain that is built needs one digit from 0 to 3 for each set, at 0\n"
+unfolding endingLine
+verdicts-refused = refl
 
 list-closed : endingLine ListClosed [] ≡ bytes "orbendash: 66: the list can't be opened\n"
 unfolding endingLine

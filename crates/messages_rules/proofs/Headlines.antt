@@ -11,7 +11,7 @@ use Rattle.decimals_rules.specs.Decimals.{decimal}
 use Rattle.decimals_rules.proofs.Headlines.{decimal-length}
 use Rattle.authserv_rules.specs.OwnList.{entryLimit, longest}
 use Rattle.messages_rules.specs.declared.Ending.{Ending}
-use Rattle.messages_rules.specs.declared.Ending.the-variants.{Done, Usage, ListClosed, ListUnread, InputUnread, InputTooLong, OutputTooLong, Unwritten, Refused, LinesRefused}
+use Rattle.messages_rules.specs.declared.Ending.the-variants.{Done, Usage, ListClosed, ListUnread, InputUnread, InputTooLong, OutputTooLong, Unwritten, VerdictsRefused, Refused, LinesRefused}
 use Rattle.messages_rules.specs.Messages.{untilFeed, feeds, fault, faultAt, meaning, linesMeaning, opening, closing, endingLine}
 
 -- what the code can be handed: a number of one byte, and a place
@@ -26,6 +26,7 @@ Told InputUnread = Unit {0}
 Told InputTooLong = Unit {0}
 Told OutputTooLong = Unit {0}
 Told Unwritten = Unit {0}
+Told VerdictsRefused = Unit {0}
 
 fault-short : (count : ℕ) (xs : List ℕ) → length (fault count xs) ≤ 38
 unfolding fault
@@ -85,6 +86,7 @@ ending-fits InputUnread list t = lit≤ tt
 ending-fits InputTooLong list t = lit≤ tt
 ending-fits OutputTooLong list t = lit≤ tt
 ending-fits Unwritten list t = lit≤ tt
+ending-fits VerdictsRefused list t = lit≤ tt
 ending-fits (Refused n p) list t =
     omega (
       arith,

@@ -7,7 +7,7 @@ use lib.ListN.{length}
 use borrow.Author.Tests.{le-leb, lt-leb, eq-eqb, ne-eqb}
 use Rattle.reading.specs.Texts.{bytes, same}
 use Rattle.authserv_rules.specs.OwnList.{entryLimit, longest}
-use Rattle.messages_rules.specs.declared.Asked.the-variants.{Strip, Report, Write, Nothing}
+use Rattle.messages_rules.specs.declared.Asked.the-variants.{Strip, Report, Explain, Judge, Write, Nothing}
 use Rattle.messages_rules.specs.Words.{asked}
 use Rattle.messages_rules.specs.Messages.{untilFeed, fault, faultAt, meaning, linesMeaning}
 
@@ -24,9 +24,19 @@ module _ (count : ℕ) (word : List ℕ) where
       unfolding asked
       asked-report u = rw (eq-eqb count 3 h, ← s, t, ← r, u)
 
-      pub asked-neither : q ≡ false → Nothing ≡ asked count word
-      unfolding asked
-      asked-neither u = rw (eq-eqb count 3 h, ← s, t, ← r, u)
+      module _ (u : q ≡ false) (x : Bool) (v : x ≡ same word (bytes "explain")) where
+        pub asked-explain : x ≡ true → Explain ≡ asked count word
+        unfolding asked
+        asked-explain w = rw (eq-eqb count 3 h, ← s, t, ← r, u, ← v, w)
+
+        module _ (w : x ≡ false) (y : Bool) (z : y ≡ same word (bytes "judge")) where
+          pub asked-judge : y ≡ true → Judge ≡ asked count word
+          unfolding asked
+          asked-judge j = rw (eq-eqb count 3 h, ← s, t, ← r, u, ← v, w, ← z, j)
+
+          pub asked-neither : y ≡ false → Nothing ≡ asked count word
+          unfolding asked
+          asked-neither j = rw (eq-eqb count 3 h, ← s, t, ← r, u, ← v, w, ← z, j)
 
   module _ (h : count ≡ 3 → ⊥) where
     pub asked-other : (count ≡ 2 → ⊥) → Nothing ≡ asked count word

@@ -12,7 +12,7 @@ use Rattle.reading.specs.Readers.{Reader, run}
 use Rattle.decimals_rules.specs.Decimals.{decimal}
 use Rattle.authserv_rules.specs.OwnList.{entryLimit, longest}
 use Rattle.messages_rules.specs.declared.Ending.{Ending}
-use Rattle.messages_rules.specs.declared.Ending.the-variants.{Done, Usage, ListClosed, ListUnread, InputUnread, InputTooLong, OutputTooLong, Unwritten, Refused, LinesRefused}
+use Rattle.messages_rules.specs.declared.Ending.the-variants.{Done, Usage, ListClosed, ListUnread, InputUnread, InputTooLong, OutputTooLong, Unwritten, VerdictsRefused, Refused, LinesRefused}
 
 -- ==== what is wrong with an entry of our own list that is known to be bad (01, Block and list)
 
@@ -102,12 +102,13 @@ linesRefusal number place = opening number ++ (linesMeaning number ++ closing pl
 -- the line of an ending, where our own list is this
 unfoldable pub endingLine : Ending → List ℕ → List ℕ
 endingLine Done list = bytes "orbendash: 0: done\n"
-endingLine Usage list = bytes "orbendash: 64: usage: orbendash strip LIST < BLOCK, orbendash report LIST < BLOCK, orbendash write < LINES or orbendash --help\n"
+endingLine Usage list = bytes "orbendash: 64: usage: orbendash strip LIST < BLOCK, the same with report or explain, orbendash judge VERDICTS < BLOCK, orbendash write < LINES or orbendash --help\n"
 endingLine ListClosed list = bytes "orbendash: 66: the list can't be opened\n"
 endingLine ListUnread list = bytes "orbendash: 66: the list can't be read\n"
 endingLine InputUnread list = bytes "orbendash: 74: standard input can't be read\n"
 endingLine InputTooLong list = bytes "orbendash: 74: standard input can't be read whole: it has more than 262,144 bytes\n"
 endingLine OutputTooLong list = bytes "orbendash: 70: the output is too long\n"
 endingLine Unwritten list = bytes "orbendash: 74: standard output can't be written\n"
+endingLine VerdictsRefused list = bytes "orbendash: 10: bad verdicts: a chain that is built needs one digit from 0 to 3 for each set, at 0\n"
 endingLine (Refused number place) list = refusalLine number place list
 endingLine (LinesRefused number place) list = linesRefusal number place

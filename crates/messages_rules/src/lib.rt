@@ -5,6 +5,8 @@
 pub enum Asked {
     Strip,
     Report,
+    Explain,
+    Judge,
     Write,
     // None of the things that the command does.
     Nothing,
@@ -28,6 +30,8 @@ pub enum Ending {
     OutputTooLong,
     // A write of the output failed.
     Unwritten,
+    // The verdicts are not those that the chain needs (01, number 10).
+    VerdictsRefused,
     // A block or our own list is refused, by a number of 01.
     Refused { number: u8, place: usize },
     // Report lines are refused, by a number of 02.

@@ -1,10 +1,18 @@
 -- How each subcommand ends, by what its call answers for a buffer of so many bytes. Assumes nothing: these are definitions.
-use Prim.Native.Nat.{ℕ}
+use Prim.Native.Nat.{ℕ, min}
+use mathlib.Core.Bool.{cond}
+use lib.Dec.{eqb}
+use lib.ListN.{length}
+use Rattle.sequences.specs.Stored.{cap}
 use Rattle.strip_rules.specs.declared.Stripped.{Stripped}
 use Rattle.reports_rules.specs.declared.BlockReported.{BlockReported}
 use Rattle.compose.specs.declared.Written.{Written}
+use Rattle.reports_rules.specs.Reports.{Answer}
+use Rattle.explain_rules.specs.Explained.{explained}
+use Rattle.arc_rules.specs.declared.Judged.{Judged}
+use Rattle.judging_rules.specs.Judgement.{judgement}
 use Rattle.messages_rules.specs.declared.Ending.{Ending}
-use Rattle.messages_rules.specs.declared.Ending.the-variants.{Refused, LinesRefused}
+use Rattle.messages_rules.specs.declared.Ending.the-variants.{VerdictsRefused, Refused, LinesRefused}
 use Rattle.endings.specs.Outcomes.{Outcome}
 
 abbrev pub StripEnds : ℕ → Stripped → Ending → Type 0
@@ -12,6 +20,17 @@ StripEnds room a r = Outcome (a .number) (Refused (a .number) (a .place)) room (
 
 abbrev pub ReportEnds : ℕ → BlockReported → Ending → Type 0
 ReportEnds room a r = Outcome (a .number) (Refused (a .number) (a .place)) room (a .written) r
+
+-- the lines that were reported, in words
+abbrev pub ExplainEnds : Answer → Ending → Type 0
+ExplainEnds a r = Outcome (a .number) (Refused (a .number) (a .place)) 524288 (min (length (explained (a .written))) cap) r
+
+-- bad verdicts have a line of their own
+abbrev pub verdictsRefusal : ℕ → ℕ → Ending
+verdictsRefusal number place = cond (eqb number 10) VerdictsRefused (Refused number place)
+
+abbrev pub JudgeEnds : Judged → Ending → Type 0
+JudgeEnds j r = Outcome (j .number) (verdictsRefusal (j .number) (j .place)) 512 (min (length (judgement j)) cap) r
 
 abbrev pub WriteEnds : ℕ → Written → Ending → Type 0
 WriteEnds room a r = Outcome (a .number) (LinesRefused (a .number) (a .place)) room (a .written) r

@@ -77,6 +77,15 @@ slice-aggregate-put-part-8 c = search needs
 put-part-requires-8 : tie.Need-put-part-requires-8
 put-part-requires-8 c κs = search needs
 
+enum-told-9 : tie.Need-enum-told-9
+enum-told-9 c = search needs
+
+slice-aggregate-put-part-9 : tie.Need-slice-aggregate-put-part-9
+slice-aggregate-put-part-9 c = search needs
+
+put-part-requires-9 : tie.Need-put-part-requires-9
+put-part-requires-9 c κs = search needs
+
 enum-known-ending : tie.Need-enum-known-ending
 enum-known-ending c = search needs
 
@@ -150,14 +159,21 @@ same-length-9 c = search needs
 
 returns-9 : tie.Need-returns-9
 unfolding endingLine
-returns-9 c = ending-put _ _ (c .before .before .before .before .before .ending .given .1) (c .before .before .before .before .before .before .before .before .before .args .list .now) _ _ _ _ (c .before .before .put-refusal .ensures)
+returns-9 c = ending-put _ _ (c .before .before .before .before .before .enum-told9 .given .1) (c .before .before .before .before .before .before .before .before .before .args .list .now) _ _ _ _ (c .before .before .put-part9 .ensures)
 
 same-length-10 : tie.Need-same-length-10
 same-length-10 c = search needs
 
 returns-10 : tie.Need-returns-10
 unfolding endingLine
-returns-10 c = ending-put _ _ (c .before .before .before .before .before .ending2 .given .1) (c .before .before .before .before .before .before .before .before .before .args .list .now) _ _ _ _ (c .before .before .put-lines-refusal .ensures)
+returns-10 c = ending-put _ _ (c .before .before .before .before .before .ending .given .1) (c .before .before .before .before .before .before .before .before .before .args .list .now) _ _ _ _ (c .before .before .put-refusal .ensures)
+
+same-length-11 : tie.Need-same-length-11
+same-length-11 c = search needs
+
+returns-11 : tie.Need-returns-11
+unfolding endingLine
+returns-11 c = ending-put _ _ (c .before .before .before .before .before .ending2 .given .1) (c .before .before .before .before .before .before .before .before .before .args .list .now) _ _ _ _ (c .before .before .put-lines-refusal .ensures)
 
 pub put-ending-spec : {M : Type 1} → statement M
 put-ending-spec =
@@ -187,6 +203,9 @@ put-ending-spec =
     enum-told-8
     slice-aggregate-put-part-8
     put-part-requires-8
+    enum-told-9
+    slice-aggregate-put-part-9
+    put-part-requires-9
     enum-known-ending
     put-refusal-requires
     enum-known-ending-2
@@ -210,4 +229,6 @@ put-ending-spec =
     same-length-9
     returns-9
     same-length-10
-    returns-10)
+    returns-10
+    same-length-11
+    returns-11)
