@@ -3,9 +3,10 @@ use Prim.Native.Nat.{ℕ, _+_, _≤_, min}
 use native.Mathlib.Nat.{zero-add}
 use native.Mathlib.Omega.{arith}
 use mathlib.Core.Path.{_≡_, refl, sym, ap, _∙_, subst}
-use mathlib.Core.List.{List, [], _∷_, _++_}
+use mathlib.Core.List.{List}
 use lib.Dec.{eqb}
 use lib.ListN.{length, length-take, take, drop}
+use lib.Seq.{take-append-seam}
 use borrow.Author.Tests.{eq-eqb, ne-eqb}
 use Rattle.sequences.specs.Stored.{cap, Clipped}
 use Rattle.reports_rules.specs.declared.BlockReported.{BlockReported}
@@ -53,10 +54,6 @@ judge-so j k f n m old new r e g q w o =
 
 -- ==== the lines of a report
 
-take-append : (u v : List ℕ) → take (length u) (u ++ v) ≡ u
-take-append [] v = refl
-take-append (y ∷ u) v = ap (λ (l : List ℕ). y ∷ l) (take-append u v)
-
 module _ (x : ℕ → Answer) (n : ℕ) (b : BlockReported) (old new : List ℕ) (e : b ≡ answerOf (x n)) (l : new ≡ leaves (x n) old) where
   text : List ℕ
   text = x n .written
@@ -64,7 +61,7 @@ module _ (x : ℕ → Answer) (n : ℕ) (b : BlockReported) (old new : List ℕ)
   -- what was stored is what was reported
   stored : take (b .written) new ≡ text
   unfolding text
-  stored = ap (λ (y : BlockReported). take (y .written) new) e ∙ (ap (take (length (x n .written))) l ∙ take-append (x n .written) (drop (length (x n .written)) old))
+  stored = ap (λ (y : BlockReported). take (y .written) new) e ∙ (ap (take (length (x n .written))) l ∙ take-append-seam (x n .written) (drop (length (x n .written)) old))
 
   pub prefix-long : b .written ≡ length (take (b .written) new)
   unfolding text
