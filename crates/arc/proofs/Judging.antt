@@ -3,9 +3,9 @@
 use Prim.Native.Nat.{ℕ, zero, suc, _-_, _≤_}
 use native.Mathlib.Omega.{arith}
 use mathlib.Core.Path.{_≡_, refl, sym, _∙_}
-use mathlib.Core.Bool.{Bool, true, false, not}
+use mathlib.Core.Bool.{Bool, true, false}
 use mathlib.Core.List.{List}
-use borrow.Author.Tests.{not-true, not-false, eq-eqb, ne-eqb, ltb-false}
+use borrow.Author.Tests.{eq-eqb, ne-eqb, ltb-false}
 use lib.Dec.{ltb}
 use lib.ListN.{length, getD, take, replicate}
 use Rattle.lexis_rules.specs.Limits.{byteLimit}
@@ -14,34 +14,10 @@ use Rattle.arc_rules.specs.declared.Judged.{Judged}
 use Rattle.arc.specs.declared.Counts.{Counts}
 use Rattle.arc.specs.declared.Gathered.{Gathered}
 use Rattle.arc_rules.specs.Sets.{lastInstance}
-use Rattle.arc_rules.specs.Chain.{Outcome, none, failed, built, anyEmpty, prescribed, completeOutcome, outcomeOf, validFor, passes, oldestPass, blank, judged, judge}
+use Rattle.arc_rules.specs.Chain.{Outcome, none, failed, built, anyEmpty, prescribed, completeOutcome, outcomeOf, blank, judged, judge}
 use Rattle.arc_rules.specs.Answers.{answerOf}
 use Rattle.arc.specs.Internal.{setsOf, GatheredFrom, Places, rankedBy}
 use Rattle.arc.proofs.Noting.{Fitting, nothing-fits}
-
--- ==== a chain that is built
-
-module _ (n : ℕ) (v : List ℕ) (ok : Bool) (h : ok ≡ validFor n v) where
-  pub judge-built-bad : (r : Judged) → not ok ≡ true → r ≡ answerOf (blank 10 0) → r ≡ answerOf (judged (built n) v)
-  unfolding judged
-  judge-built-bad r z e = let t : validFor n v ≡ false = sym h ∙ not-true ok z in rw (judged, t) e
-
-  module _ (z : not ok ≡ false) (good : Bool) (g : good ≡ passes v) where
-    pub judge-built-pass : good ≡ true → (o : ℕ) → o ≡ oldestPass v
-        → record { number = 0; place = 0; outcome = 2; reason = 0; field = 0; instances = n; status = 1; oldest = o } ≡ answerOf (judged (built n) v)
-    unfolding judged
-    judge-built-pass y o e =
-        let t : validFor n v ≡ true = sym h ∙ not-false ok z in
-        let u : passes v ≡ true = sym g ∙ y in
-        rw (judged, t, u, e)
-
-    pub judge-built-fail : good ≡ false
-        → record { number = 0; place = 0; outcome = 2; reason = 0; field = 0; instances = n; status = 2; oldest = 0 } ≡ answerOf (judged (built n) v)
-    unfolding judged
-    judge-built-fail y =
-        let t : validFor n v ≡ true = sym h ∙ not-false ok z in
-        let u : passes v ≡ false = sym g ∙ y in
-        rw (judged, t, u)
 
 -- ==== a chain whose fields read and are not repeated
 

@@ -30,7 +30,7 @@ use Rattle.arc_rules.specs.declared.Kind.the-variants.{Results, Signature, Seal
 use Rattle.arc_rules.specs.Sets.{kindNamed, lastInstance, instance, Said, says}
 use Rattle.arc_rules.specs.Chain.{Sets, noSets, column, first, sealed, placed, recorded, noted, gathered}
 use Rattle.instances.specs.Answers.{noInstance}
-use Rattle.arc_rules.proofs.Counting.{InRange, says-range}
+use Rattle.arc_laws.proofs.Counting.{InRange, says-range}
 use Rattle.arc.specs.Internal.{fieldSaid, saidOf, isOther, setsOf, noCounts, GatheredFrom, Places}
 
 -- ==== a field that reads

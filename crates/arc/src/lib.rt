@@ -20,10 +20,7 @@
 // is pass.
 use answer_numbers::ChainValue;
 use answer_numbers::Number;
-use answer_numbers::Outcome;
 use answer_numbers::Reason;
-use answer_numbers::Status;
-use answer_numbers::Verdict;
 use arc_rules::Judged;
 use arc_rules::Kind;
 use block::Next;
@@ -37,12 +34,10 @@ ghost use Prim.Native.Nat.{_≤_, _<_};
 ghost use lib.Dec.{ltb};
 ghost use lib.ListN.{length, take};
 ghost use Rattle.lexis_rules.specs.Limits.{byteLimit};
-ghost use Rattle.arc_rules.specs.Chain.{column, first, sealed, placed, noted, failed, built, anyEmpty, prescribed, sealGood, all, validFor, passes, oldestPass, blank, judged, judge};
+ghost use Rattle.arc_rules.specs.Chain.{column, first, sealed, placed, noted, anyEmpty, prescribed, judged, judge};
 ghost use Rattle.arc_rules.specs.Sets.{lastInstance};
 ghost use Rattle.arc_rules.specs.Answers.{answerOf};
 ghost use Rattle.arc.specs.Internal.{fieldOf, fieldSaid, saidOf, isOther, setsOf, GatheredFrom, Places, rankedBy};
-
-pub mod kind;
 
 // What an ARC field says: its instance, and a seal's chain value (0 for the other kinds).
 enum Field {
@@ -234,7 +229,7 @@ fn read_sets(
                 body_start,
                 end,
             } => {
-                let kind = kind::kind_of(&s[start..name_end]);
+                let kind = arc_kinds::kind_of(&s[start..name_end]);
                 c = note(kind, count + 1, &s[body_start..end - 2], places, cvs, c);
                 at = end;
                 count += 1;
@@ -299,125 +294,6 @@ fn is_prescribed(cvs: &[u8; Instance::LAST], n: usize) -> bool
     true
 }
 
-// Whether the verdicts are n bytes from 0 to 3.
-fn are_valid(n: usize, v: &[u8]) -> bool
-    ensures { λ r. ⌜ r ≡ validFor n (now (v .entry)) ⌝ }
-{
-    if v.len() != n {
-        return false;
-    }
-    let mut i: usize = 0;
-    while i < v.len() {
-        if v[i] > Verdict::MOST {
-            return false;
-        }
-        i += 1;
-    }
-    true
-}
-
-// Whether all seals are good.
-fn seals_good(v: &[u8]) -> bool
-    ensures { λ r. ⌜ r ≡ all sealGood (now (v .entry)) ⌝ }
-{
-    let mut i: usize = 0;
-    while i < v.len() {
-        if v[i] < Verdict::SEAL {
-            return false;
-        }
-        i += 1;
-    }
-    true
-}
-
-// Whether all seals and the last signature are good.
-fn is_pass(v: &[u8]) -> bool
-    ensures { λ r. ⌜ r ≡ passes (now (v .entry)) ⌝ }
-{
-    if v.len() == 0 {
-        return false;
-    }
-    if v[v.len() - 1] % 2 == 1 {
-        return seals_good(v);
-    }
-    false
-}
-
-// One more than the highest instance with a bad signature; 0 if all are good.
-fn oldest_pass(v: &[u8]) -> usize
-    ensures { λ r. ⌜ r ≡ oldestPass (now (v .entry)) ⌝ }
-{
-    let mut i = v.len();
-    while i > 0 {
-        if v[i - 1] % 2 == 0 {
-            return i + 1;
-        }
-        i -= 1;
-    }
-    0
-}
-
-fn blank(number: u8, place: usize) -> Judged
-    ensures { λ r. ⌜ r ≡ answerOf (blank number place) ⌝ }
-{
-    Judged {
-        number,
-        place,
-        outcome: Outcome::NONE,
-        reason: Reason::NONE,
-        field: 0,
-        instances: 0,
-        status: Status::NONE,
-        oldest: 0,
-    }
-}
-
-fn failed(reason: u8, field: usize, v: &[u8]) -> Judged
-    ensures { λ r. ⌜ r ≡ answerOf (judged (failed reason field) (now (v .entry))) ⌝ }
-{
-    Judged {
-        number: Number::DONE,
-        place: 0,
-        outcome: Outcome::FAILED,
-        reason,
-        field,
-        instances: 0,
-        status: Status::FAIL,
-        oldest: 0,
-    }
-}
-
-// The answer where a chain of n instances is built.
-fn judge_built(n: usize, v: &[u8]) -> Judged
-    ensures { λ r. ⌜ r ≡ answerOf (judged (built n) (now (v .entry))) ⌝ }
-{
-    if !are_valid(n, v) {
-        return blank(Number::BAD_VERDICTS, 0);
-    }
-    if is_pass(v) {
-        return Judged {
-            number: Number::DONE,
-            place: 0,
-            outcome: Outcome::BUILT,
-            reason: Reason::NONE,
-            field: 0,
-            instances: n,
-            status: Status::PASS,
-            oldest: oldest_pass(v),
-        };
-    }
-    Judged {
-        number: Number::DONE,
-        place: 0,
-        outcome: Outcome::BUILT,
-        reason: Reason::NONE,
-        field: 0,
-        instances: n,
-        status: Status::FAIL,
-        oldest: 0,
-    }
-}
-
 // The answer where every ARC field reads, none is repeated, and n is the highest instance.
 fn judge_complete(
     places: &[[u16; 3]; Instance::LAST],
@@ -429,15 +305,15 @@ fn judge_complete(
     ensures { λ r. ⌜ r ≡ answerOf (judged (rankedBy n (now (places .entry)) (now (cvs .entry))) (now (v .entry))) ⌝ }
 {
     if has_empty(places, n) {
-        return failed(Reason::EMPTY_PLACE, 0, v);
+        return chain_answers::failed(Reason::EMPTY_PLACE, 0, v);
     }
     if cvs[n - 1] == ChainValue::FAIL {
-        return failed(Reason::LAST_FAIL, 0, v);
+        return chain_answers::failed(Reason::LAST_FAIL, 0, v);
     }
     if is_prescribed(cvs, n) {
-        return judge_built(n, v);
+        return chain_answers::judge_built(n, v);
     }
-    failed(Reason::NOT_PRESCRIBED, 0, v)
+    chain_answers::failed(Reason::NOT_PRESCRIBED, 0, v)
 }
 
 // Judges the chain of a block by the verdicts on its signatures.
@@ -445,22 +321,22 @@ pub fn judge(s: &[u8], verdicts: &[u8]) -> Judged
     ensures { λ r. ⌜ r ≡ answerOf (judge (now (s .entry)) (now (verdicts .entry))) ⌝ }
 {
     if lexis::too_long(s) {
-        return blank(Number::TOO_LONG, 0);
+        return chain_answers::blank(Number::TOO_LONG, 0);
     }
     let mut places = [[0u16; 3]; Instance::LAST];
     let mut cvs = [0u8; Instance::LAST];
     let g = read_sets(s, &mut places, &mut cvs);
     if g.number != Number::DONE {
-        return blank(g.number, g.place);
+        return chain_answers::blank(g.number, g.place);
     }
     if g.counts.unreadable != 0 {
-        return failed(Reason::UNREADABLE, g.counts.unreadable, verdicts);
+        return chain_answers::failed(Reason::UNREADABLE, g.counts.unreadable, verdicts);
     }
     if g.counts.repeated != 0 {
-        return failed(Reason::REPEATED, g.counts.repeated, verdicts);
+        return chain_answers::failed(Reason::REPEATED, g.counts.repeated, verdicts);
     }
     if g.counts.highest == 0 {
-        return blank(Number::DONE, 0);
+        return chain_answers::blank(Number::DONE, 0);
     }
     judge_complete(&places, &cvs, g.counts.highest, verdicts)
 }

@@ -4,10 +4,3 @@ pub mod FieldExamples
 pub mod Samples
 pub mod ChainSamples
 pub mod AcceptedExamples
-pub mod Counting
-pub mod Storing
-pub mod Gathering
-pub mod Acceptance
-pub mod Answering
-pub mod Headlines
-pub mod Ways

@@ -18,8 +18,8 @@ use Rattle.lexis_rules.specs.declared.Class.the-variants.{Delimiter}
 use Rattle.lexis_rules.specs.Bytes.{inClass}
 use Rattle.lexis_rules.specs.Pieces.{space, quoted}
 use Rattle.lexis_rules.specs.Words.{valueText, skip}
-use Rattle.lexis_rules.proofs.Pieces.{space-fits, quoted-fits}
-use Rattle.lexis_rules.proofs.Values.{quoted-text, quote-text, token-text}
+use Rattle.lexis_laws.proofs.Pieces.{space-fits, quoted-fits}
+use Rattle.lexis_laws.proofs.Values.{quoted-text, quote-text, token-text}
 use Rattle.authserv.specs.declared.Identifier.{Identifier}
 use Rattle.authserv.specs.declared.Identifier.the-variants.{Readable, Unreadable}
 use Rattle.authserv_rules.specs.Identifier.{identifierToken, identifierValue, identifier}

@@ -16,7 +16,7 @@ use Rattle.reading.proofs.Loops.{reaches-start, reaches-on}
 use Rattle.lexis_rules.specs.declared.Class.the-variants.{Token}
 use Rattle.lexis_rules.specs.Bytes.{inClass}
 use Rattle.lexis_rules.specs.Pieces.{token}
-use Rattle.lexis_rules.proofs.Bytes.{class-zero}
+use Rattle.lexis_laws.proofs.Bytes.{class-zero}
 use Rattle.authserv_rules.specs.Identifier.{identifierByte, identifierToken}
 
 pub byte-high : (b : ℕ) → 128 ≤ b → true ≡ identifierByte b

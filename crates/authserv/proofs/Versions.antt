@@ -14,7 +14,7 @@ use Rattle.lexis_rules.specs.Pieces.{space, digits, leading}
 use Rattle.lexis_rules.specs.Numbers.{numberOf}
 use Rattle.lexis_rules.specs.Words.{counted, gap, readDigits}
 use Rattle.lexis_rules.specs.Answers.{digitsAt}
-use Rattle.lexis_rules.proofs.Numbers.{counted-text}
+use Rattle.lexis_laws.proofs.Numbers.{counted-text}
 use Rattle.authserv.specs.declared.Version.the-variants.{Absent, Stated}
 use Rattle.authserv_rules.specs.Version.{stated}
 use Rattle.authserv.specs.Answers.{versionFrom, versionAt, versionGot}

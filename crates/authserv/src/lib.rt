@@ -27,7 +27,7 @@ pub fn delimited(s: &[u8], at: usize) -> bool
     ensures { λ r. ⌜ r ≡ follows (inClass Class.Delimiter) (drop at (now (s .entry))) ⌝ }
 {
     if at < s.len() {
-        return lexis::in_class(Class::Delimiter, s[at]);
+        return items::in_class(Class::Delimiter, s[at]);
     }
     true
 }
@@ -39,7 +39,7 @@ pub fn in_identifier(b: u8) -> bool
     if b >= 128 {
         return true;
     }
-    lexis::in_class(Class::Token, b)
+    items::in_class(Class::Token, b)
 }
 
 // The end of the token of an identifier: one byte at a time.
@@ -61,7 +61,7 @@ fn token_from(s: &[u8], at: usize) -> usize
 fn identifier_token_end(s: &[u8], at: usize) -> usize
     ensures { λ r. ⌜ r ≡ at + identifierToken (drop at (now (s .entry))) ⌝ }
 {
-    let e = lexis::token_end(s, at);
+    let e = tokens::token_end(s, at);
     if reading::byte(s, e, 0) < 128 {
         return e;
     }
@@ -91,7 +91,7 @@ pub fn identify(body: &[u8]) -> Identifier
 {
     let a = lexis::wide_space_end(body, 0);
     if reading::is_at(body, a, 0, b'"') {
-        return readable(body, a, lexis::quoted_end(body, a), true);
+        return readable(body, a, tokens::quoted_end(body, a), true);
     }
     readable(body, a, identifier_token_end(body, a), false)
 }
@@ -114,7 +114,7 @@ pub fn version_at(s: &[u8], at: usize) -> Version
     if a == at {
         return Version::Absent;
     }
-    let d = lexis::digits_at(s, a);
+    let d = digit_runs::digits_at(s, a);
     if d.end == a {
         return Version::Absent;
     }

@@ -1,11 +1,4 @@
-pub mod Entries
 pub mod ListExamples
-pub mod EntryBytes
-pub mod Feeds
-pub mod OwnLists
-pub mod Ends
 pub mod Examples
 pub mod Utf8Examples
 pub mod SpelledExamples
-pub mod Parts
-pub mod Headlines

@@ -15,7 +15,7 @@ use Rattle.block.specs.declared.Next.the-variants as next
 use Rattle.block_rules.specs.Fields.{Field, nameOf, bodyOf, fieldLimit, fieldAt}
 use Rattle.block.specs.Steps.{nextOf, nextFrom}
 use Rattle.block.proofs.Lines.{next-is}
-use Rattle.block_rules.proofs.Field.{field-size, field-bytes, field-long, field-below, field-sound}
+use Rattle.block_laws.proofs.Field.{field-size, field-bytes, field-long, field-below, field-sound}
 
 -- what is left of a block at a place, after so many fields
 abbrev pub Rest : List ℕ → ℕ → ℕ → Walked Field

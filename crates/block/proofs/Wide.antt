@@ -19,8 +19,8 @@ use Rattle.reading.proofs.Readers.{there-at}
 use Rattle.lexis_rules.specs.declared.Class.the-variants.{Blank, Name}
 use Rattle.lexis_rules.specs.Bytes.{inClass}
 use Rattle.block_rules.specs.Fields.{inLine, line, name, nameColon, folded, extent, fieldLimit}
-use Rattle.block_rules.proofs.Lines.{line-fits}
-use Rattle.block_rules.proofs.Extents.{line-past, extent-past, line-closed, extent-folded, extent-closed}
+use Rattle.block_laws.proofs.Lines.{line-fits}
+use Rattle.block_laws.proofs.Extents.{line-past, extent-past, line-closed, extent-folded, extent-closed}
 use Rattle.block.specs.declared.Next.the-variants.{Field, Refused}
 use Rattle.block.specs.Steps.{nextFrom}
 use Rattle.block.proofs.Lines.{finish-field, next-3, next-4, next-field}

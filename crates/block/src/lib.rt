@@ -11,11 +11,9 @@ ghost use mathlib.Core.Path.{_≡_};
 ghost use mathlib.Core.Bool.{false, _||_};
 ghost use lib.Dec.{eqb};
 ghost use Prim.Native.Nat.{_+_, _≤_};
-ghost use lib.ListN.{length, drop, getD};
-ghost use Rattle.reading.specs.Readers.{many};
-ghost use Rattle.reading.specs.Places.{Reaches};
+ghost use lib.ListN.{length, drop};
 ghost use Rattle.lexis_rules.specs.Bytes.{inClass};
-ghost use Rattle.block_rules.specs.Fields.{inLine, lineText, line, name, nameColon, folded};
+ghost use Rattle.block_rules.specs.Fields.{name, nameColon};
 ghost use Rattle.block.specs.Steps.{freshWalk, nextAt, finished};
 ghost use Rattle.block.specs.Wide.{broken, EndsAt, Onward};
 
@@ -53,110 +51,6 @@ pub enum Next {
     },
 }
 
-// Neither CR nor LF.
-fn in_line(b: u8) -> bool
-    ensures { λ r. ⌜ r ≡ inLine b ⌝ }
-{
-    if b == b'\r' {
-        return false;
-    }
-    b != b'\n'
-}
-
-// The next CR or LF, or the end: a byte at a time.
-fn near(s: &[u8], at: usize) -> usize
-    ensures { λ r. ⌜ r ≡ at + lineText (drop at (now (s .entry))) ⌝ }
-{
-    let mut i = at;
-    while i < s.len() {
-        if in_line(s[i]) {
-            i += 1;
-        } else {
-            return i;
-        }
-    }
-    i
-}
-
-// Whether one of n bytes is CR or LF. There is no way out of the loop, so that with n a number in the call it is compiled to a few wide
-// compares.
-fn has_end(s: &[u8], at: usize, n: usize) -> bool
-    requires { ⌜ at + n ≤ length (now s) ⌝ }
-    ensures { λ r. ⌜ (r ≡ false → Reaches lineText (now (s .entry)) at (at + n)) ⌝ }
-{
-    let mut hit = false;
-    let mut j: usize = 0;
-    while j < n {
-        if in_line(s[at + j]) {
-            j += 1;
-        } else {
-            hit = true;
-            j += 1;
-        }
-    }
-    hit
-}
-
-// The next CR or LF, or the end: sixteen bytes at a time.
-fn line_text(s: &[u8], at: usize) -> usize
-    ensures { λ r. ⌜ r ≡ at + lineText (drop at (now (s .entry))) ⌝ }
-{
-    let mut i = at;
-    loop {
-        let r = reading::rest(s.len(), i);
-        if r < 16 {
-            return near(s, i);
-        }
-        if has_end(s, i, 16) {
-            return near(s, i);
-        }
-        i += 16;
-    }
-}
-
-// The end of a line with its CRLF: the place itself where it has none.
-fn line_end(s: &[u8], at: usize) -> usize
-    ensures { λ r. ⌜ r ≡ at + line (drop at (now (s .entry))) ⌝ }
-{
-    let e = line_text(s, at);
-    if reading::is_at(s, e, 0, b'\r') {
-        if reading::is_at(s, e, 1, b'\n') {
-            return e + 2;
-        }
-    }
-    at
-}
-
-fn blank_at(s: &[u8], at: usize) -> bool
-    ensures { λ r. ⌜ r ≡ inClass Class.Blank (getD (drop at (now (s .entry))) 0 0) ⌝ }
-{
-    lexis::in_class(Class::Blank, reading::byte(s, at, 0))
-}
-
-// The end of a line that starts with space or tab: the place itself where there is none.
-fn folded_end(s: &[u8], at: usize) -> usize
-    ensures { λ r. ⌜ r ≡ at + folded (drop at (now (s .entry))) ⌝ }
-{
-    if blank_at(s, at) {
-        return line_end(s, at);
-    }
-    at
-}
-
-// The end of such lines, one after the other.
-fn folds_end(s: &[u8], at: usize) -> usize
-    ensures { λ r. ⌜ r ≡ at + many folded 0 (drop at (now (s .entry))) ⌝ }
-{
-    let mut i = at;
-    loop {
-        let e = folded_end(s, i);
-        if e == i {
-            return i;
-        }
-        i = e;
-    }
-}
-
 // The place after the colon, where the name ends at n: the place itself where name or colon lacks.
 fn label_end(s: &[u8], at: usize, n: usize) -> usize
     requires { ⌜ n ≡ at + name (drop at (now s)) ⌝ }
@@ -165,7 +59,7 @@ fn label_end(s: &[u8], at: usize, n: usize) -> usize
     if n == at {
         return at;
     }
-    let e = lexis::run_end(s, n, Class::Blank);
+    let e = items::run_end(s, n, Class::Blank);
     if reading::is_at(s, e, 0, b':') {
         return e + 1;
     }
@@ -176,11 +70,11 @@ fn label_end(s: &[u8], at: usize, n: usize) -> usize
 fn finish(s: &[u8], at: usize, l: usize, n: usize, b: usize) -> Next
     ensures { λ r. ⌜ r ≡ finished at l n b (now (s .entry)) ⌝ }
 {
-    let e = folds_end(s, l);
-    if blank_at(s, e) {
+    let e = block_lines::folds_end(s, l);
+    if block_lines::blank_at(s, e) {
         return Next::Refused {
             number: Number::LINE_END,
-            place: line_text(s, e),
+            place: block_lines::line_text(s, e),
         };
     }
     Next::Field {
@@ -200,14 +94,14 @@ fn next_by_lines(s: &[u8], w: Walk) -> Next
     if s.len() <= at {
         return Next::End;
     }
-    let l = line_end(s, at);
+    let l = block_lines::line_end(s, at);
     if l == at {
         return Next::Refused {
             number: Number::LINE_END,
-            place: line_text(s, at),
+            place: block_lines::line_text(s, at),
         };
     }
-    let n = lexis::run_end(s, at, Class::Name);
+    let n = items::run_end(s, at, Class::Name);
     let b = label_end(s, at, n);
     if b == at {
         return Next::Refused {

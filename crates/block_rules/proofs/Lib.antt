@@ -1,6 +1,2 @@
-pub mod Lines
-pub mod Extents
-pub mod Field
-pub mod Fields
 pub mod Examples
 pub mod FieldExamples

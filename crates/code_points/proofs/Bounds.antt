@@ -8,8 +8,8 @@ use Rattle.code_points.specs.declared.numbers.Numbers.{Numbers}
 use Rattle.punycode_rules.specs.Punycode.{threshold}
 use Rattle.punycode_rules.specs.Labels.{spellingLimit}
 use Rattle.code_points.specs.Internal.{limit, lastOf, moreOf, Small}
-use Rattle.punycode_rules.proofs.Digits.{threshold-bounds}
-use Rattle.punycode_rules.proofs.Adapting.{adapt-bound}
+use Rattle.punycode_laws.proofs.Digits.{threshold-bounds}
+use Rattle.punycode_laws.proofs.Adapting.{adapt-bound}
 
 -- at a start
 pub small-start : Small (record { n = 128; i = 0; bias = 72; old = 0; w = 1; k = 36 })

@@ -17,8 +17,8 @@ use Rattle.punycode_rules.specs.Punycode.{start, beforeLast, basic, consumed}
 use Rattle.punycode_rules.specs.Labels.{decoded, spellingLimit}
 use Rattle.code_points.specs.Internal.{Opened, Ends, Copied}
 use Rattle.code_points.specs.Answers.{Tells}
-use Rattle.punycode_rules.proofs.Decoding.{counted, kept-some}
-use Rattle.punycode_rules.proofs.Basics.{before-inside, basic-scalars, decoded-yes, decoded-no}
+use Rattle.punycode_laws.proofs.Decoding.{counted, kept-some}
+use Rattle.punycode_laws.proofs.Basics.{before-inside, basic-scalars, decoded-yes, decoded-no}
 
 -- ==== the last hyphen
 

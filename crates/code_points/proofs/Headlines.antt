@@ -13,8 +13,8 @@ use borrow.Author.Tests.{leb-true, leb-false}
 use Rattle.sequences.specs.Stored.{Put}
 use Rattle.sequences.proofs.Splices.{put-front}
 use Rattle.punycode_rules.specs.Labels.{decoded, spellingLimit}
-use Rattle.punycode_rules.proofs.Lists.{absurd-some}
-use Rattle.punycode_rules.proofs.Lengths.{decoded-most}
+use Rattle.punycode_laws.proofs.Lists.{absurd-some}
+use Rattle.punycode_laws.proofs.Lengths.{decoded-most}
 use Rattle.code_points.specs.declared.Points.{Points}
 use Rattle.code_points.specs.declared.Points.the-variants.{Read, Failed, Long}
 use Rattle.code_points.specs.Answers.{fits, pointsAnswer, pointsStored, Tells}

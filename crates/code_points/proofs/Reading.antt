@@ -14,9 +14,9 @@ use Rattle.punycode_rules.specs.Punycode.{start, insert, last, digitOf, thresho
 use Rattle.punycode_rules.specs.Unicode.{scalar, scalars}
 use Rattle.punycode_rules.specs.Labels.{kept, spellingLimit}
 use Rattle.code_points.specs.Internal.{limit, stateOf, lastOf, moreOf, Small, Inserted, Opened, Ends}
-use Rattle.punycode_rules.proofs.Digits.{scalar-below}
+use Rattle.punycode_laws.proofs.Digits.{scalar-below}
 use Rattle.code_points.proofs.Bounds.{small-start, small-more, small-last, place-in}
-use Rattle.punycode_rules.proofs.Decoding.{numbers-end, numbers-cut, numbers-none, numbers-last, numbers-more, scalars-good, kept-good, kept-none, last-bad, digit-fails, counted, kept-some}
+use Rattle.punycode_laws.proofs.Decoding.{numbers-end, numbers-cut, numbers-none, numbers-last, numbers-more, scalars-good, kept-good, kept-none, last-bad, digit-fails, counted, kept-some}
 
 -- before a digit: the numbers from here on give what they give from the start; the code points so far are scalars, there is room for them,
 -- and each took a byte at least; and the variables are small
@@ -96,7 +96,7 @@ module _ (s : List ℕ) (at : ℕ) (b out : List ℕ) (q : Numbers) (p count : �
           reads-long w = (
             omega (arith, r .long, r .fits),
             λ u f. (let c = counted (drop (suc p) s) (last (stateOf q (take count out)) d) .least u (kept-some _ u (then ∙ f)) in
-                omega (arith, c, n, r .long, Rattle.punycode_rules.proofs.Decoding.length-insert ((q .i + d * q .w) % (length (take count out) + 1)) (last (stateOf q (take count out)) d .n) (take count out))),
+                omega (arith, c, n, r .long, Rattle.punycode_laws.proofs.Decoding.length-insert ((q .i + d * q .w) % (length (take count out) + 1)) (last (stateOf q (take count out)) d .n) (take count out))),
           )
 
           module _ (q′ : Numbers) (f : q′ ≡ lastOf q d count) where

@@ -17,7 +17,7 @@ use Rattle.reading.specs.Locality.{Fits}
 use Rattle.reading.proofs.Loops.{many-on, many-off, turn-fits, turn-less}
 use Rattle.reading.proofs.Repeats.{several-none, several-again, several-total}
 use lib.Seq.{drop-drop}
-use Rattle.compose.proofs.Coded.{coded-byte-within}
+use Rattle.compose_laws.proofs.Coded.{coded-byte-within}
 use Rattle.reading.specs.Parsers.{Got, nothing, got, when, byte, several}
 use Rattle.reading.proofs.Sequencing.{bind-none, bind-stuck, bind-got, byte-is, byte-not, when-is, when-not, give-is, either-first, either-second}
 use Rattle.lexis_rules.specs.declared.Class.the-variants.{Visible}

@@ -21,7 +21,7 @@ use Rattle.lexis_rules.specs.Pieces.{keyword}
 use Rattle.resinfo_rules.specs.Table.{table, tabled}
 use Rattle.values.specs.Values.{span}
 use Rattle.compose.specs.Entries.{whole, isKeyword}
-use Rattle.compose.proofs.Keywords.{keyword-is, tabled-keywords}
+use Rattle.compose_laws.proofs.Keywords.{keyword-is, tabled-keywords}
 use Rattle.columns.specs.Internal.{columnSize, ColumnEnd, column, unclosed}
 
 -- ==== one column

@@ -22,10 +22,10 @@ use Rattle.resinfo_rules.specs.Table.{listed, ptypes}
 use Rattle.body.specs.Report.{plain, escape}
 use Rattle.compose.specs.Entries.{single, escaped, each, whole, isText, isKeyword, localOf, domainOf, stands, kindOf}
 use Rattle.compose.specs.Promise.{Bytes}
-use Rattle.compose.proofs.Readback.{several-reads}
-use Rattle.compose.proofs.Coded.{spelt, escape-joined, bytes-each, byte-coded, spelt-long}
-use Rattle.compose.proofs.Keywords.{keyword-is, ptype-keyword}
-use Rattle.compose.proofs.Signs.{plain-sign, other-sign, local-same, domain-same, domain-raw}
+use Rattle.compose_laws.proofs.Readback.{several-reads}
+use Rattle.compose_laws.proofs.Coded.{spelt, escape-joined, bytes-each, byte-coded, spelt-long}
+use Rattle.compose_laws.proofs.Keywords.{keyword-is, ptype-keyword}
+use Rattle.compose_laws.proofs.Signs.{plain-sign, other-sign, local-same, domain-same, domain-raw}
 use Rattle.columns.specs.declared.coded.Test.the-variants as test
 use Rattle.columns.specs.Internal.{codedByte, textOf, inTest, IsCoded}
 use Rattle.columns.proofs.Tails.{text-test, token-test}

@@ -23,7 +23,7 @@ use Rattle.reading.proofs.Places.{at-got, at-none, goes-on, stops, byte-at, byt
 use Rattle.values.specs.Values.{span}
 use Rattle.body.specs.Report.{escape}
 use Rattle.compose.specs.Entries.{single, coded, kindOf, kindLetter}
-use Rattle.compose.proofs.Coded.{coded-finds}
+use Rattle.compose_laws.proofs.Coded.{coded-finds}
 use Rattle.columns.specs.declared.coded.Test.the-variants as test
 use Rattle.columns.specs.declared.coded.Text as read
 use Rattle.columns.specs.Internal.{codeSize, textOf, textAt, Shown, IsCoded, ShownEnd, shownEnd, shownNot}

@@ -22,7 +22,7 @@ use Rattle.columns.proofs.Codes.{text-none, text-more, text-on, text-of
 use Rattle.reading.specs.Readers.{run, many}
 use Rattle.reading.specs.Places.{Reaches}
 use Rattle.reading.proofs.Loops.{reaches-start}
-use Rattle.compose.proofs.Quotes.{run-each, each-run}
+use Rattle.compose_laws.proofs.Quotes.{run-each, each-run}
 
 -- ==== one byte
 

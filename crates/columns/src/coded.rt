@@ -22,7 +22,7 @@ fn is_plain(b: u8) -> bool
     if b == b'%' {
         return false;
     }
-    lexis::in_class(Class::Visible, b)
+    items::in_class(Class::Visible, b)
 }
 
 // The number of an upper-case hex digit; 16 for any other byte.
@@ -94,14 +94,14 @@ fn in_test(t: Test, b: u8) -> bool
 {
     match t {
         Test::Text => {
-            if lexis::in_class(Class::Quoted, b) {
+            if items::in_class(Class::Quoted, b) {
                 return true;
             }
-            lexis::in_class(Class::Escaped, b)
+            items::in_class(Class::Escaped, b)
         }
-        Test::Token => lexis::in_class(Class::Token, b),
+        Test::Token => items::in_class(Class::Token, b),
         Test::Identifier => authserv::in_identifier(b),
-        Test::Local => values::in_local_part(b),
+        Test::Local => domains::in_local_part(b),
     }
 }
 

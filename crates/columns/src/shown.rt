@@ -22,7 +22,7 @@ fn is_domain(d: &[u8]) -> bool
     if d.len() == 0 {
         return false;
     }
-    values::domain_end(d, 0) == d.len()
+    domains::domain_end(d, 0) == d.len()
 }
 
 // The place of the last "@" of a text; its length where there is none.

@@ -18,7 +18,7 @@ ghost use Rattle.columns.specs.Internal.{columnSize};
 pub fn column_end(s: &[u8], at: usize, close: u8) -> usize
     ensures { λ r. ⌜ r ≡ at + columnSize close (drop at (now (s .entry))) ⌝ }
 {
-    let e = lexis::keyword_end(s, at);
+    let e = tokens::keyword_end(s, at);
     if reading::is_at(s, e, 0, close) {
         return e;
     }
@@ -31,7 +31,7 @@ pub fn is_lower(part: &[u8]) -> bool
 {
     let mut j: usize = 0;
     while j < part.len() {
-        if texts::lower(part[j]) != part[j] {
+        if comparing::lower(part[j]) != part[j] {
             return false;
         }
         j += 1;
@@ -58,7 +58,7 @@ pub fn is_keyword(p: &[u8]) -> bool
     if p.len() == 0 {
         return false;
     }
-    if lexis::keyword_end(p, 0) == p.len() {
+    if tokens::keyword_end(p, 0) == p.len() {
         return is_lower(p);
     }
     false

@@ -80,7 +80,7 @@ fn with_lines() {
 fn main() {
     let mut word = io::buffer();
     let n = os::arg(1, &mut word);
-    match messages::words::asked(os::arg_count(), &word[..n]) {
+    match asking::asked(os::arg_count(), &word[..n]) {
         Asked::Strip => with_list(Asked::Strip),
         Asked::Report => with_list(Asked::Report),
         Asked::Explain => with_list(Asked::Explain),

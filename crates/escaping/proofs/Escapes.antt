@@ -23,8 +23,8 @@ use Rattle.lexis_rules.specs.declared.Class.the-variants.{Quoted}
 use Rattle.lexis_rules.specs.Bytes.{inClass}
 use Rattle.lexis_rules.specs.Pieces.{item}
 use Rattle.lexis_rules.specs.Words.{quotedText}
-use Rattle.lexis_rules.proofs.Pieces.{item-fits}
-use Rattle.resinfo_rules.proofs.Values.{implied}
+use Rattle.lexis_laws.proofs.Pieces.{item-fits}
+use Rattle.resinfo_laws.proofs.Values.{implied}
 use Rattle.body.specs.Report.{hexDigit, plain, escape}
 use Rattle.escaping.specs.Internal.{verbatim}
 

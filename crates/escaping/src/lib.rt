@@ -162,7 +162,7 @@ pub fn put_quoted(s: &[u8], at: usize, out: &mut [u8], to: usize) -> usize
             n = texts::put_part(&s[i..e], out, n);
             i = e;
         } else {
-            let k = lexis::item_at(s, i, Class::Quoted);
+            let k = items::item_at(s, i, Class::Quoted);
             if k == 0 {
                 return n;
             }

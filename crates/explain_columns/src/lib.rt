@@ -86,7 +86,7 @@ pub fn kind_of_line(l: &[u8]) -> Line
 fn shown(b: u8) -> u8
     ensures { λ r. ⌜ r ≡ shown b ⌝ }
 {
-    if lexis::in_class(Class::Visible, b) {
+    if items::in_class(Class::Visible, b) {
         return b;
     }
     b'?'

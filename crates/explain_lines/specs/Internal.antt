@@ -1,11 +1,7 @@
--- What private functions say of each other. No public contract cites these. Assumes nothing: these are definitions.
+-- The labels of a line with one column, for private functions. No public contract cites these. Assumes nothing: this is a definition.
 use Prim.Native.Nat.{ℕ}
-use mathlib.Core.List.{List, _++_}
-use Rattle.explain_rules.specs.Explained.{column, behind, whoseWords, answerWords, countWords}
+use mathlib.Core.List.{List}
+use Rattle.reading.specs.Texts.{bytes}
 
--- the columns of the line of a field: the last two, and those from the second on
-abbrev pub answerOn : List ℕ → List ℕ
-answerOn l = answerWords (column l) ++ countWords (column (behind l))
-
-abbrev pub whoseOn : List ℕ → List ℕ
-whoseOn l = whoseWords (column l) ++ answerOn (behind l)
+abbrev pub labels : List ℕ
+labels = bytes "  checked by |  header version |, reason: "

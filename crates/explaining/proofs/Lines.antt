@@ -13,7 +13,7 @@ use Rattle.reading.specs.Readers.{run}
 use Rattle.reading.specs.Texts.{bytes}
 use Rattle.authserv_rules.specs.Spelled.{linesOf}
 use Rattle.authserv_rules.specs.Ends.{feedless, untilFeed, span}
-use Rattle.authserv_rules.proofs.Ends.{lines-none, line-inside, lines-at}
+use Rattle.authserv_laws.proofs.Ends.{lines-none, line-inside, lines-at}
 use Rattle.explain_rules.specs.declared.Line.{Line}
 use Rattle.explain_rules.specs.Explained.{kindOfLine, lineWords, goesOn, ended, linesWords, explained}
 use Rattle.explain_columns.specs.Until.{except}

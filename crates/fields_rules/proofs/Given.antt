@@ -12,8 +12,8 @@ use Rattle.reading.specs.Walks.{Met, item, refused, walk}
 use Rattle.lexis_rules.specs.Limits.{byteLimit}
 use Rattle.block_rules.specs.Fields.{Field, fieldLimit, fieldAt, bytesOf}
 use Rattle.block_rules.specs.Sound.{Sound, AllSound, none, more}
-use Rattle.block_rules.proofs.Fields.{fields-four}
-use Rattle.block_rules.proofs.Field.{field-size, field-bytes, field-below, field-sound}
+use Rattle.block_laws.proofs.Fields.{fields-four}
+use Rattle.block_laws.proofs.Field.{field-size, field-bytes, field-below, field-sound}
 use Rattle.fields_rules.specs.Steps.{given}
 use Rattle.fields_rules.specs.Whole.{AllBefore}
 use Rattle.fields_rules.proofs.Firsts.{given-long, given-fields}

@@ -11,7 +11,7 @@ use lib.Seq.{take-append-seam, drop-append-seam}
 use Rattle.lexis_rules.specs.Limits.{byteLimit}
 use Rattle.block_rules.specs.Fields.{Field, fieldLimit, fields, bytesOf}
 use Rattle.block_rules.specs.Sound.{AllSound}
-use Rattle.block_rules.proofs.Fields.{fields-fine, walk-back}
+use Rattle.block_laws.proofs.Fields.{fields-fine, walk-back}
 use Rattle.fields_rules.specs.declared.Step.{Step}
 use Rattle.fields_rules.specs.declared.Step.the-variants.{Last}
 use Rattle.fields_rules.specs.Steps.{given, lastOf, placed, firstFrom, stepFrom, pastOf, pastFrom}

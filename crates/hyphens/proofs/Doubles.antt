@@ -11,7 +11,7 @@ use lib.Seq.{drop-cons, getD-drop}
 use borrow.Author.Tests.{leb-true, leb-false}
 use Rattle.sequences.proofs.Booleans.{and-none}
 use Rattle.punycode_rules.specs.Labels.{doubleHyphen}
-use Rattle.punycode_rules.proofs.Lists.{or-false-left, or-false-right, or-both}
+use Rattle.punycode_laws.proofs.Lists.{or-false-left, or-false-right, or-both}
 
 -- one byte further on
 pub double-step : (s : List ℕ) (j : ℕ) → j + 1 < length s → (r : Bool) → r ≡ (eqb (getD s j 0) 45 && eqb (getD s (j + 1) 0) 45) → r ≡ false → doubleHyphen (drop (j + 1) s) ≡ doubleHyphen (drop j s)

@@ -24,7 +24,7 @@ use Rattle.lexis_rules.specs.declared.Class.the-variants.{Digit}
 use Rattle.lexis_rules.specs.Bytes.{inClass, alike}
 use Rattle.lexis_rules.specs.Pieces.{space, digits, decimal}
 use Rattle.lexis_rules.specs.Words.{skip}
-use Rattle.lexis_rules.proofs.Numbers.{decimal-more}
+use Rattle.lexis_laws.proofs.Numbers.{decimal-more}
 use Rattle.arc_rules.specs.declared.Kind.the-variants.{Results, Signature, Seal, Other}
 use Rattle.arc_rules.specs.Sets.{kindNamed, isInstance, instance}
 use Rattle.tags.specs.Tags.{span}

@@ -93,7 +93,7 @@ pub enum Start {
 fn number_at(s: &[u8], at: usize) -> Start
     ensures { λ r. ⌜ startGot r ≡ from numbered (now (s .entry)) at ⌝ }
 {
-    let e = lexis::run_end(s, at, Class::Digit);
+    let e = items::run_end(s, at, Class::Digit);
     if e == at {
         return Start::Missing;
     }

@@ -27,7 +27,7 @@ fn with_verdicts() {
 fn main() {
     let mut word = io::buffer();
     let n = os::arg(1, &mut word);
-    match messages::words::asked(os::arg_count(), &word[..n]) {
+    match asking::asked(os::arg_count(), &word[..n]) {
         Asked::Judge => with_verdicts(),
         Asked::Strip => usage(),
         Asked::Report => usage(),

@@ -1,6 +1,6 @@
--- The laws of items, comments and what they hold at a place of a slice, with premises as a need is handed them: the invariant of the
+-- The laws of comments and what they hold, and of space, at a place of a slice, with premises as a need is handed them: the invariant of the
 -- loop, what a call ensures of its answer, and what a test says of that. Each is a law of `reading` at one reader. Assumes nothing.
-use Prim.Native.Nat.{ℕ, _+_, _-_, _<_, _^_}
+use Prim.Native.Nat.{ℕ, _+_, _-_, _<_}
 use native.Mathlib.Omega.{arith}
 use mathlib.Core.Path.{_≡_, refl, sym, _∙_}
 use mathlib.Core.Bool.{Bool, true, false}
@@ -8,38 +8,20 @@ use mathlib.Core.List.{List, _∷_}
 use lib.Dec.{eqb}
 use lib.ListN.{length, getD, drop}
 use borrow.Author.Tests.{eqb-true}
-use mir.Syntax.{w64}
-use mir.Val as machine
 use Rattle.sequences.proofs.Booleans.{both}
 use Rattle.reading.specs.Texts.{within, oneOf}
-use Rattle.reading.specs.Readers.{run, many, choose}
+use Rattle.reading.specs.Readers.{run, choose}
 use Rattle.reading.specs.Places.{Reaches}
 use Rattle.reading.proofs.Readers.{choose-yes, choose-no, many-none}
-use Rattle.reading.proofs.Loops.{many-on, many-off, many-past-run, turn-fits, turn-less, opens-not, closes, closes-not, room-at}
+use Rattle.reading.proofs.Loops.{many-on, many-off, many-past-run, opens-not, closes, closes-not, room-at}
 use Rattle.lexis_rules.specs.declared.Class.{Class}
 use Rattle.lexis_rules.specs.declared.Class.the-variants.{Blank, Opening, Comment}
 use Rattle.lexis.specs.declared.Cursor.{Cursor}
 use Rattle.lexis.specs.Internal.{freshAt}
 use Rattle.lexis_rules.specs.Bytes.{inClass}
 use Rattle.lexis_rules.specs.Pieces.{item, comment, content, space}
-use Rattle.lexis_rules.proofs.Pieces.{item-fits, comment-fits, part-fits, comment-none, comment-is}
-use Rattle.lexis_rules.proofs.Locality.{part-shut}
-
--- ==== items of a class
-
-module _ (c : Class) (s : List ℕ) (at i n : ℕ) where
-  pub items-on : Reaches (many (item c) 0) s at i → n ≡ item c (drop i s) → Reaches (many (item c) 0) s at (i + n)
-  items-on w q = many-on (item c) (item-fits c) s at i n q w
-
-  pub items-off : Reaches (many (item c) 0) s at i → n ≡ item c (drop i s) → n ≡ 0 → i ≡ at + many (item c) 0 (drop at s)
-  items-off w q z = many-off (item c) (item-fits c) s at i n q w z
-
-module _ (c : Class) (s : List ℕ) (i n : ℕ) (q : n ≡ item c (drop i s)) (ne : n ≡ 0 → ⊥) where
-  pub item-turn : length s < 2 ^ 64 → machine.Fits w64 (i + n)
-  item-turn l = turn-fits (item c) (item-fits c) s i i n q ne l
-
-  pub item-less : length s - (i + n) < length s - i
-  item-less = turn-less (item c) (item-fits c) s i i n q ne
+use Rattle.lexis_laws.proofs.Pieces.{item-fits, comment-fits, part-fits, comment-none, comment-is}
+use Rattle.lexis_laws.proofs.Locality.{part-shut}
 
 -- ==== a comment
 

@@ -1,11 +1,3 @@
-pub mod Bytes
-pub mod Pieces
-pub mod Locality
-pub mod Numbers
-pub mod VersionNumbers
-pub mod Trimmed
-pub mod Values
-pub mod Steadiness
 pub mod Examples
 pub mod ClassExamples
 pub mod WordExamples

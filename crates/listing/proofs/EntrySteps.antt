@@ -19,7 +19,7 @@ use Rattle.listing.specs.declared.Checked.the-variants as checked
 use Rattle.authserv_rules.specs.OwnList.{entryLimit, longest, entryText, entry, entryAt, ownList}
 use Rattle.listing.specs.Steps.{listedOf, listedFrom, checkedOf}
 use Rattle.reading.proofs.Places.{behind-first}
-use Rattle.authserv_rules.proofs.Entries.{entry-fits, entry-is}
+use Rattle.authserv_laws.proofs.Entries.{entry-fits, entry-is}
 
 -- ==== an entry
 

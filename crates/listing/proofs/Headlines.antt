@@ -4,7 +4,7 @@ use native.Mathlib.Omega.{arith}
 use mathlib.Core.Path.{_≡_, refl, sym, ap, _∙_}
 use mathlib.Core.List.{List}
 use Rattle.authserv_rules.specs.OwnList.{ownList}
-use Rattle.authserv_rules.proofs.Entries.{list-five}
+use Rattle.authserv_laws.proofs.Entries.{list-five}
 use Rattle.listing.specs.Steps.{checkedOf, numberOf, placeOf}
 
 pub check-number : (list : List ℕ) → numberOf (checkedOf (ownList list)) ≡ ownList list .number

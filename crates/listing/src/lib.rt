@@ -6,9 +6,6 @@ ghost use lib.ListN.{drop};
 ghost use Rattle.authserv_rules.specs.OwnList.{entryText, entry, ownList};
 ghost use Rattle.listing.specs.Steps.{freshEntries, listedAt, checkedOf};
 
-mod utf8;
-mod visible;
-
 // Where a walk over a list of our own stands, and how many entries it has passed.
 pub struct Entries {
     pub at: usize,
@@ -42,8 +39,8 @@ fn text_from(s: &[u8], at: usize) -> usize
 {
     let mut i = at;
     loop {
-        let e = lexis::run_end(s, i, Class::Visible);
-        let n = utf8::sequence_at(s, e);
+        let e = items::run_end(s, i, Class::Visible);
+        let n = entry_bytes::utf8::sequence_at(s, e);
         if n == 0 {
             return e;
         }
@@ -55,7 +52,7 @@ fn text_from(s: &[u8], at: usize) -> usize
 fn entry_text(s: &[u8], at: usize) -> usize
     ensures { λ r. ⌜ r ≡ at + entryText (drop at (now (s .entry))) ⌝ }
 {
-    let e = visible::visible_end(s, at);
+    let e = entry_bytes::visible::visible_end(s, at);
     if reading::byte(s, e, 0) < 128 {
         return e;
     }

@@ -1,74 +1,129 @@
--- What a number means and what is wrong with an entry, stored: the words of each case of the definition. The premises are literally what a need
+-- What a number means and what is wrong with an entry, stored: the words of each case of the definition are a phrase of the text. The premises are literally what a need
 -- is handed. Assumes nothing.
-use Prim.Native.Nat.{ℕ, _+_, _-_, _≤_, _<_, _^_}
+use Prim.Native.Nat.{ℕ, zero, suc, _+_, _-_, _≤_, _<_, _^_}
 use native.Mathlib.Omega.{arith}
-use mathlib.Core.Path.{_≡_}
-use mathlib.Core.List.{List}
+use mathlib.Core.Path.{_≡_, refl, sym}
+use mathlib.Core.Bool.{cond}
+use mathlib.Core.List.{List, [], _++_, append-nil}
+use lib.Dec.{eqb}
 use lib.ListN.{length, take, drop, length-drop}
+use borrow.Author.Tests.{eq-eqb, ne-eqb}
 use Rattle.sequences.specs.Stored.{Clipped}
 use Rattle.sequences.proofs.Clips.{clipped-then}
 use Rattle.reading.specs.Texts.{bytes}
+use Rattle.reading.specs.Readers.{run}
+use Rattle.phrases.specs.Phrases.{start, phrase}
 use Rattle.messages_rules.specs.Messages.{feeds, untilFeed, faultAt, meaning, linesMeaning}
-use Rattle.messages_rules.proofs.Lines.{fault-count, fault-long, fault-open, fault-empty, fault-byte, meaning-one, meaning-two, meaning-three, meaning-four, meaning-five, meaning-six, lines-eleven, lines-one, lines-six}
+use Rattle.messages_rules.proofs.Lines.{fault-count, fault-long, fault-open, fault-empty, fault-byte, meaning-six, lines-eleven, lines-one, lines-six}
+use Rattle.meanings.specs.Internal.{faults, meanings, meaningPlace, linesMeanings}
 
 -- ==== what is wrong with an entry
 
-module _ (list : List ℕ) (place : ℕ) (old : List ℕ) (to : ℕ) (new : List ℕ) (r : ℕ) (count : ℕ) (n : count ≡ feeds (take place list)) where
-  pub put-count : 64 ≤ count → Clipped old to (bytes "it is the 65th") new r → Clipped old to (faultAt list place) new r
-  put-count h w = rw (fault-count (feeds (take place list)) (drop place list) (rw n at h)) w
+module _ (list : List ℕ) (place count : ℕ) (n : count ≡ feeds (take place list)) where
+  pub fault-zero : 64 ≤ count → phrase 0 faults ≡ faultAt list place
+  unfolding phrase start run
+  fault-zero h = sym (fault-count (feeds (take place list)) (drop place list) (rw n at h))
 
   module _ (h : count < 64) (end : ℕ) (e : end ≡ place + untilFeed (drop place list)) where
     few : feeds (take place list) < 64
     few = rw n at h
 
-    pub put-long : 255 < end - place → Clipped old to (bytes "it has more than 255 bytes") new r → Clipped old to (faultAt list place) new r
-    put-long i w = rw (fault-long (feeds (take place list)) (drop place list) few (omega arith)) w
+    pub fault-one : 255 < end - place → phrase 1 faults ≡ faultAt list place
+    unfolding phrase start run
+    fault-one i = sym (fault-long (feeds (take place list)) (drop place list) few (omega arith))
 
     module _ (i : end - place ≤ 255) where
-      pub put-open : length list ≤ end → Clipped old to (bytes "it does not end with LF") new r → Clipped old to (faultAt list place) new r
-      put-open j w = rw (fault-open (feeds (take place list)) (drop place list) few (omega arith) (omega (arith, length-drop place list))) w
+      pub fault-two : length list ≤ end → phrase 2 faults ≡ faultAt list place
+      unfolding phrase start run
+      fault-two j = sym (fault-open (feeds (take place list)) (drop place list) few (omega arith) (omega (arith, length-drop place list)))
 
       module _ (j : end < length list) where
-        pub put-empty : end ≡ place → Clipped old to (bytes "it is empty") new r → Clipped old to (faultAt list place) new r
-        put-empty k w = rw (fault-empty (feeds (take place list)) (drop place list) few (omega arith) (omega (arith, length-drop place list)) (omega arith)) w
+        pub fault-three : end ≡ place → phrase 3 faults ≡ faultAt list place
+        unfolding phrase start run
+        fault-three k = sym (fault-empty (feeds (take place list)) (drop place list) few (omega arith) (omega (arith, length-drop place list)) (omega arith))
 
-        pub put-bad : (end ≡ place → ⊥) → Clipped old to (bytes "it has a byte that may not stand there") new r → Clipped old to (faultAt list place) new r
-        put-bad k w = rw (fault-byte (feeds (take place list)) (drop place list) few (omega arith) (omega (arith, length-drop place list)) (λ z. k (omega arith))) w
+        pub fault-four : (end ≡ place → ⊥) → phrase 4 faults ≡ faultAt list place
+        unfolding phrase start run
+        fault-four k = sym (fault-byte (feeds (take place list)) (drop place list) few (omega arith) (omega (arith, length-drop place list)) (λ z. k (omega arith)))
+
+pub fault-put : (list : List ℕ) (place p : ℕ) → phrase p faults ≡ faultAt list place → (old : List ℕ) (to : ℕ) (new : List ℕ) (r : ℕ) → Clipped old to (phrase p faults) new r
+    → Clipped old to (faultAt list place) new r
+fault-put list place p e old to new r w = rw (← e) w
 
 -- ==== what a number means
 
-module _ (n place : ℕ) (list old : List ℕ) (to : ℕ) (new : List ℕ) (r : ℕ) where
-  pub put-one : n ≡ 1 → Clipped old to (bytes "the block has more than 65,536 bytes") new r → Clipped old to (meaning n place list) new r
-  put-one a w = rw (meaning-one n place list a) w
+module _ (n : ℕ) where
+  pub place-one : n ≡ 1 → 0 ≡ meaningPlace n
+  unfolding meaningPlace
+  place-one a = rw (eq-eqb n 1 a)
 
   module _ (a : n ≡ 1 → ⊥) where
-    pub put-two : n ≡ 2 → Clipped old to (bytes "a CR without LF, an LF without CR, or a last line without CRLF") new r → Clipped old to (meaning n place list) new r
-    put-two b w = rw (meaning-two n place list a b) w
+    pub place-two : n ≡ 2 → 1 ≡ meaningPlace n
+    unfolding meaningPlace
+    place-two b = rw (ne-eqb n 1 a, eq-eqb n 2 b)
 
     module _ (b : n ≡ 2 → ⊥) where
-      pub put-three : n ≡ 3 → Clipped old to (bytes "an empty line, a first line that starts with space or tab, or a field without name or colon") new r
-          → Clipped old to (meaning n place list) new r
-      put-three c w = rw (meaning-three n place list a b c) w
+      pub place-three : n ≡ 3 → 2 ≡ meaningPlace n
+      unfolding meaningPlace
+      place-three c = rw (ne-eqb n 1 a, ne-eqb n 2 b, eq-eqb n 3 c)
 
       module _ (c : n ≡ 3 → ⊥) where
-        pub put-four : n ≡ 4 → Clipped old to (bytes "a 513th field") new r → Clipped old to (meaning n place list) new r
-        put-four d w = rw (meaning-four n place list a b c d) w
+        pub place-four : n ≡ 4 → 3 ≡ meaningPlace n
+        unfolding meaningPlace
+        place-four d = rw (ne-eqb n 1 a, ne-eqb n 2 b, ne-eqb n 3 c, eq-eqb n 4 d)
 
         module _ (d : n ≡ 4 → ⊥) where
-          pub put-five : n ≡ 5 → length old < 2 ^ 64 → (o : List ℕ) (i : ℕ) → Clipped old to (bytes "a bad entry of the list: ") o i → Clipped o i (faultAt list place) new r
-              → Clipped old to (meaning n place list) new r
-          put-five e l o i v w = rw (meaning-five n place list a b c d e) (clipped-then (omega arith) v w)
+          pub place-five : n ≡ 5 → 4 ≡ meaningPlace n
+          unfolding meaningPlace
+          place-five e = rw (ne-eqb n 1 a, ne-eqb n 2 b, ne-eqb n 3 c, ne-eqb n 4 d, eq-eqb n 5 e)
 
-          pub put-six : (n ≡ 5 → ⊥) → Clipped old to (bytes "the output is too long") new r → Clipped old to (meaning n place list) new r
-          put-six e w = rw (meaning-six n place list a b c d e) w
+          pub place-six : (n ≡ 5 → ⊥) → 5 ≡ meaningPlace n
+          unfolding meaningPlace
+          place-six e = rw (ne-eqb n 1 a, ne-eqb n 2 b, ne-eqb n 3 c, ne-eqb n 4 d, ne-eqb n 5 e)
 
-module _ (n : ℕ) (old : List ℕ) (to : ℕ) (new : List ℕ) (r : ℕ) where
-  pub put-eleven : n ≡ 11 → Clipped old to (bytes "no body has that report, at line ") new r → Clipped old to (linesMeaning n) new r
-  put-eleven a w = rw (lines-eleven n a) w
+module _ (n place : ℕ) (list : List ℕ) (a : n ≡ 1 → ⊥) (b : n ≡ 2 → ⊥) (c : n ≡ 3 → ⊥) (d : n ≡ 4 → ⊥) (e : n ≡ 5 → ⊥) where
+  meaning-other : phrase (meaningPlace n) meanings ++ cond (eqb n 5) (faultAt list place) [] ≡ meaning n place list
+  unfolding phrase start run meaningPlace
+  meaning-other = rw (meaning-six n place list a b c d e, ne-eqb n 1 a, ne-eqb n 2 b, ne-eqb n 3 c, ne-eqb n 4 d, ne-eqb n 5 e)
+
+-- the phrase, and for 5 what is wrong with the entry
+meaning-is : (n place : ℕ) (list : List ℕ) → phrase (meaningPlace n) meanings ++ cond (eqb n 5) (faultAt list place) [] ≡ meaning n place list
+unfolding phrase start run meaningPlace meaning
+meaning-is zero place list = refl
+meaning-is (suc zero) place list = refl
+meaning-is (suc (suc zero)) place list = refl
+meaning-is (suc (suc (suc zero))) place list = refl
+meaning-is (suc (suc (suc (suc zero)))) place list = refl
+meaning-is (suc (suc (suc (suc (suc zero))))) place list = refl
+meaning-is (suc (suc (suc (suc (suc (suc n)))))) place list =
+    meaning-other (suc (suc (suc (suc (suc (suc n)))))) place list (λ e. omega (arith, e)) (λ e. omega (arith, e)) (λ e. omega (arith, e)) (λ e. omega (arith, e)) (λ e. omega (arith, e))
+
+module _ (n place : ℕ) (list old : List ℕ) (to p : ℕ) (e : p ≡ meaningPlace n) (o : List ℕ) (i : ℕ) (v : Clipped old to (phrase p meanings) o i) where
+  said : Clipped old to (phrase (meaningPlace n) meanings) o i
+  said = rw e at v
+
+  pub meaning-put : (n ≡ 5 → ⊥) → Clipped old to (meaning n place list) o i
+  meaning-put d = rw (← meaning-is n place list, ne-eqb n 5 d, append-nil (phrase (meaningPlace n) meanings)) said
+
+  pub meaning-fault : n ≡ 5 → length old < 2 ^ 64 → (new : List ℕ) (r : ℕ) → Clipped o i (faultAt list place) new r → Clipped old to (meaning n place list) new r
+  meaning-fault d l new r w = rw (← meaning-is n place list, eq-eqb n 5 d) (clipped-then (omega arith) said w)
+
+-- ==== what a number means of report lines
+
+module _ (n : ℕ) where
+  pub lines-zero : n ≡ 11 → phrase 0 linesMeanings ≡ linesMeaning n
+  unfolding phrase start run
+  lines-zero a = sym (lines-eleven n a)
 
   module _ (a : n ≡ 11 → ⊥) where
-    pub put-lines-one : n ≡ 1 → Clipped old to (bytes "the body would have more than 65,536 bytes, at ") new r → Clipped old to (linesMeaning n) new r
-    put-lines-one b w = rw (lines-one n a b) w
+    pub lines-first : n ≡ 1 → phrase 1 linesMeanings ≡ linesMeaning n
+    unfolding phrase start run
+    lines-first b = sym (lines-one n a b)
 
-    pub put-lines-six : (n ≡ 1 → ⊥) → Clipped old to (bytes "the output is too long, at ") new r → Clipped old to (linesMeaning n) new r
-    put-lines-six b w = rw (lines-six n a b) w
+    pub lines-last : (n ≡ 1 → ⊥) → phrase 2 linesMeanings ≡ linesMeaning n
+    unfolding phrase start run
+    lines-last b = sym (lines-six n a b)
+
+pub lines-put : (n p : ℕ) → phrase p linesMeanings ≡ linesMeaning n → (old : List ℕ) (to : ℕ) (new : List ℕ) (r : ℕ) → Clipped old to (phrase p linesMeanings) new r
+    → Clipped old to (linesMeaning n) new r
+lines-put n p e old to new r w = rw (← e) w

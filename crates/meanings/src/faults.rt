@@ -4,7 +4,9 @@ ghost use mathlib.Core.Path.{_≡_};
 ghost use Prim.Native.Nat.{_+_};
 ghost use lib.ListN.{take, drop};
 ghost use Rattle.sequences.specs.Stored.{Clipped};
+ghost use Rattle.phrases.specs.Phrases.{phrase};
 ghost use Rattle.messages_rules.specs.Messages.{feeds, untilFeed, faultAt};
+ghost use Rattle.meanings.specs.Internal.{faults};
 
 // How many LF stand in front of a place: so many entries of the list were passed.
 fn feeds_before(list: &[u8], place: usize) -> usize
@@ -40,22 +42,34 @@ fn feed_from(list: &[u8], at: usize) -> usize
     i
 }
 
+// The place of what is wrong with the entry that starts at a place, among the phrases of `put_fault`.
+fn fault_place(list: &[u8], place: usize) -> usize
+    ensures { λ r. ⌜ phrase r faults ≡ faultAt (now (list .entry)) place ⌝ }
+{
+    if feeds_before(list, place) >= Entries::ENTRIES {
+        return 0;
+    }
+    let end = feed_from(list, place);
+    if end - place > Entries::LONGEST {
+        return 1;
+    }
+    if end >= list.len() {
+        return 2;
+    }
+    if end == place {
+        return 3;
+    }
+    4
+}
+
 // What is wrong with the entry that starts at a place.
 pub(crate) fn put_fault(list: &[u8], place: usize, out: &mut [u8], to: usize) -> usize
     ensures { λ r. ⌜ Clipped (now (out .entry)) to (faultAt (now (list .entry)) place) (now (out .exit)) r ⌝ }
 {
-    if feeds_before(list, place) >= Entries::ENTRIES {
-        return texts::put_part(b"it is the 65th", out, to);
-    }
-    let end = feed_from(list, place);
-    if end - place > Entries::LONGEST {
-        return texts::put_part(b"it has more than 255 bytes", out, to);
-    }
-    if end >= list.len() {
-        return texts::put_part(b"it does not end with LF", out, to);
-    }
-    if end == place {
-        return texts::put_part(b"it is empty", out, to);
-    }
-    texts::put_part(b"it has a byte that may not stand there", out, to)
+    phrases::put_phrase(
+        b"it is the 65th|it has more than 255 bytes|it does not end with LF|it is empty|it has a byte that may not stand there",
+        fault_place(list, place),
+        out,
+        to,
+    )
 }

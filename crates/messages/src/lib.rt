@@ -1,4 +1,4 @@
-// What the command is asked for by its words (`words.rt`), and the one line on standard error with which it ends.
+// The one line on standard error with which the command ends.
 //
 // `put_ending` writes the line
 //   orbendash: NUMBER: meaning, at PLACE
@@ -8,9 +8,9 @@
 // for from there on, changes no other byte, and returns the place after the whole line, at most the largest place, which no buffer reaches.
 use messages_rules::Ending;
 ghost use Rattle.sequences.specs.Stored.{Clipped};
+ghost use Rattle.phrases.specs.Phrases.{phrase};
 ghost use Rattle.messages_rules.specs.Messages.{opening, closing, refusalLine, linesRefusal, endingLine};
-
-pub mod words;
+ghost use Rattle.messages.specs.Internal.{tolds};
 
 // The front of the line of a refusal.
 fn put_opening(number: u8, out: &mut [u8], to: usize) -> usize
@@ -48,48 +48,32 @@ fn put_lines_refusal(number: u8, place: usize, out: &mut [u8], to: usize) -> usi
     put_closing(place, out, said)
 }
 
+// The line of an ending that is told by one phrase.
+fn put_told(n: usize, out: &mut [u8], to: usize) -> usize
+    ensures { λ r. ⌜ Clipped (now (out .entry)) to (phrase n tolds) (now (out .exit)) r ⌝ }
+{
+    phrases::put_phrase(
+        b"orbendash: 0: done\n|orbendash: 64: usage: orbendash strip LIST < BLOCK, the same with report or explain, orbendash judge VERDICTS < BLOCK, orbendash write < LINES or orbendash --help\n|orbendash: 66: the list can't be opened\n|orbendash: 66: the list can't be read\n|orbendash: 74: standard input can't be read\n|orbendash: 74: standard input can't be read whole: it has more than 262,144 bytes\n|orbendash: 70: the output is too long\n|orbendash: 74: standard output can't be written\n|orbendash: 10: bad verdicts: a chain that is built needs one digit from 0 to 3 for each set, at 0\n",
+        n,
+        out,
+        to,
+    )
+}
+
 // The line of an ending; `list` is our own list, which a refusal by 5 speaks of.
 pub fn put_ending(ending: Ending, list: &[u8], out: &mut [u8], to: usize) -> usize
     ensures { λ r. ⌜ Clipped (now (out .entry)) to (endingLine ending (now (list .entry))) (now (out .exit)) r ⌝ }
 {
     match ending {
-        Ending::Done => texts::put_part(b"orbendash: 0: done\n", out, to),
-        Ending::Usage => texts::put_part(
-            b"orbendash: 64: usage: orbendash strip LIST < BLOCK, the same with report or explain, orbendash judge VERDICTS < BLOCK, orbendash write < LINES or orbendash --help\n",
-            out,
-            to,
-        ),
-        Ending::ListClosed => texts::put_part(
-            b"orbendash: 66: the list can't be opened\n",
-            out,
-            to,
-        ),
-        Ending::ListUnread => texts::put_part(b"orbendash: 66: the list can't be read\n", out, to),
-        Ending::InputUnread => texts::put_part(
-            b"orbendash: 74: standard input can't be read\n",
-            out,
-            to,
-        ),
-        Ending::InputTooLong => texts::put_part(
-            b"orbendash: 74: standard input can't be read whole: it has more than 262,144 bytes\n",
-            out,
-            to,
-        ),
-        Ending::OutputTooLong => texts::put_part(
-            b"orbendash: 70: the output is too long\n",
-            out,
-            to,
-        ),
-        Ending::Unwritten => texts::put_part(
-            b"orbendash: 74: standard output can't be written\n",
-            out,
-            to,
-        ),
-        Ending::VerdictsRefused => texts::put_part(
-            b"orbendash: 10: bad verdicts: a chain that is built needs one digit from 0 to 3 for each set, at 0\n",
-            out,
-            to,
-        ),
+        Ending::Done => put_told(0, out, to),
+        Ending::Usage => put_told(1, out, to),
+        Ending::ListClosed => put_told(2, out, to),
+        Ending::ListUnread => put_told(3, out, to),
+        Ending::InputUnread => put_told(4, out, to),
+        Ending::InputTooLong => put_told(5, out, to),
+        Ending::OutputTooLong => put_told(6, out, to),
+        Ending::Unwritten => put_told(7, out, to),
+        Ending::VerdictsRefused => put_told(8, out, to),
         Ending::Refused { number, place } => put_refusal(number, place, list, out, to),
         Ending::LinesRefused { number, place } => put_lines_refusal(number, place, out, to),
     }

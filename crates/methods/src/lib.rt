@@ -2,7 +2,7 @@
 // 2.7.4; dmarc is RFC 7489's and arc RFC 8617's), and the four ptypes (RFC 8601, 2.3).
 //
 // A text that is asked for is bytes of the input as they stand there, of any length. It is compared with the names of a table without case.
-use texts::same_word;
+use comparing::same_word;
 ghost use mathlib.Core.Path.{_≡_};
 ghost use mathlib.Core.Bool.{true};
 ghost use mathlib.Core.List.{map};

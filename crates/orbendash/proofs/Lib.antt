@@ -1,4 +1,1 @@
-pub mod Returned
 pub mod Owners
-pub mod WhoseExamples
-pub mod Headlines

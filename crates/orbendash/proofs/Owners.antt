@@ -13,12 +13,12 @@ use Rattle.authserv_rules.specs.OwnList.{ownList}
 use Rattle.authserv_rules.specs.Identifier.{identifier}
 use Rattle.authserv_rules.specs.Listed.{ownOf}
 use Rattle.authserv_rules.specs.Spelled.{linesOf, ownOfSpelled}
-use Rattle.authserv_rules.proofs.Headlines.{list-own, list-plain}
+use Rattle.authserv_laws.proofs.Headlines.{list-own, list-plain}
 use Rattle.listing.specs.declared.Checked.the-variants.{Good, Bad}
 use Rattle.listing.specs.Steps.{checkedOf, numberOf, placeOf}
 use Rattle.listing.proofs.Headlines.{check-number, check-place}
-use Rattle.orbendash.specs.declared.WhoseFace.{WhoseFace}
-use Rattle.orbendash.specs.Whose.{ownerCode, refuseWhose, tellWhose, whose}
+use Rattle.faces.specs.declared.WhoseFace.{WhoseFace}
+use Rattle.faces.specs.Whose.{refuseWhose, tellWhose, whose}
 
 -- a good list without two hyphens in a row tells as it stands what its entries tell
 pub owner-plain : (list : List ℕ) (g : Got (List ℕ)) (double : Bool) (r : Own) → ownList list .number ≡ 0 → double ≡ doubleHyphen list → double ≡ false
@@ -47,7 +47,6 @@ module _ (list body : List ℕ) (r : WhoseFace) (big : Bool) (b : big ≡ ltb by
         let at : ownList list .place ≡ p = sym (check-place list five) ∙ ap placeOf (sym q) in
         rw (whose, small, five, at) e
 
-    pub answer-0 : Good ≡ checkedOf (ownList list) → (o : Own) → o ≡ ownOf (ownList list .items) (identifier body) → (n : ℕ) → n ≡ ownerCode o
-        → r ≡ record { number = 0; whose = n; place = 0 } → r ≡ whose list body
+    pub answer-0 : Good ≡ checkedOf (ownList list) → (o : Own) → o ≡ ownOf (ownList list .items) (identifier body) → r ≡ tellWhose o → r ≡ whose list body
     unfolding whose
-    answer-0 g o w n c e = rw (whose, small, good-zero list g, ← w, ← c) e
+    answer-0 g o w e = rw (whose, small, good-zero list g, ← w) e

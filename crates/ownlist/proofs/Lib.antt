@@ -1,3 +1,2 @@
-pub mod Feeds
 pub mod Spelt
 pub mod Owners

@@ -21,8 +21,8 @@ use Rattle.authserv_rules.specs.Listed.{ownIf, ownOf}
 use Rattle.authserv_rules.specs.Spelled.{spelledList, linesOf, amongSpelled, ownOfSpelled}
 use Rattle.authserv_rules.specs.Ends.{endsOf, cutAt}
 use Rattle.authserv.proofs.Identifiers.{identifier-found, identifier-not}
-use Rattle.authserv_rules.proofs.OwnLists.{list-own}
-use Rattle.authserv_rules.proofs.Ends.{cut-ends, part-ends, part-inside, orElse, own-both}
+use Rattle.authserv_laws.proofs.OwnLists.{list-own}
+use Rattle.authserv_laws.proofs.Ends.{cut-ends, part-ends, part-inside, orElse, own-both}
 
 module _ (lines : List (List ℕ)) (body : List ℕ) where
   pub whose-none : identifier.Unreadable ≡ identifierAt body → whose.Unreadable ≡ ownOfSpelled lines (rules.identifier body)

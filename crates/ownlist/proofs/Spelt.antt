@@ -12,8 +12,8 @@ use Rattle.sequences.proofs.Splices.{Left, left-start, left-step, left-done, pu
 use Rattle.punycode_rules.specs.Labels.{spelling, spellingLimit, doubleHyphen}
 use Rattle.punycode.specs.Answers.{spellAnswer, spellStored}
 use Rattle.punycode.proofs.Headlines.{spell-long, spell-length, spell-front, spell-room}
-use Rattle.punycode_rules.proofs.Lengths.{spelling-least}
-use Rattle.punycode_rules.proofs.Headlines.{spelling-single-hyphens, spelling-limit}
+use Rattle.punycode_laws.proofs.Lengths.{spelling-least}
+use Rattle.punycode_laws.proofs.Headlines.{spelling-single-hyphens, spelling-limit}
 use Rattle.listing.specs.declared.Listed.the-variants.{Entry, End, Bad}
 use Rattle.authserv_rules.specs.OwnList.{longest, ownList}
 use Rattle.listing.specs.Steps.{listedFrom}

@@ -12,7 +12,7 @@ use punycode::Spelling;
 ghost use mathlib.Core.Path.{_≡_};
 ghost use mathlib.Core.List.{[], _∷_, _++_};
 ghost use Prim.Native.Nat.{_≤_};
-ghost use lib.ListN.{length, drop, set};
+ghost use lib.ListN.{length, drop};
 ghost use Rattle.sequences.specs.Stored.{Put};
 ghost use Rattle.lexis_rules.specs.Words.{quotedText};
 ghost use Rattle.punycode_rules.specs.Labels.{spelling};
@@ -20,14 +20,9 @@ ghost use Rattle.authserv_rules.specs.OwnList.{longest, ownList};
 ghost use Rattle.authserv_rules.specs.Identifier.{identifier};
 ghost use Rattle.authserv_rules.specs.Listed.{ownIf, ownOf};
 ghost use Rattle.authserv_rules.specs.Spelled.{spelledList, linesOf, amongSpelled, ownOfSpelled};
-ghost use Rattle.authserv_rules.specs.Ends.{endsOf, cutAt};
+ghost use Rattle.authserv_rules.specs.Ends.{cutAt};
 
-mod lines;
-
-// The most bytes of a list as it is compared: each entry with the longest spelling, and LF.
-pub const SPELLED: usize = Entries::ENTRIES * (Spelling::LONGEST + 1);
-
-// The most bytes of a text with such a spelling (`spelling-least` in punycode_rules/proofs/Lengths.antt).
+// The most bytes of a text with such a spelling (`spelling-least` in punycode_laws/proofs/Lengths.antt).
 const UNSPELLED: usize = 11 * Spelling::LONGEST + 10;
 
 // Writes an entry as it is compared, and LF.
@@ -76,7 +71,7 @@ fn is_decoded_line(own: &[u8], ends: &[usize], text: &[u8]) -> bool
     if n > Spelling::LONGEST {
         return false;
     }
-    lines::is_line(own, ends, &spelled[..n])
+    list_lines::is_line(own, ends, &spelled[..n])
 }
 
 // Whether a text is spelled as a line. One without two hyphens in a row is its own spelling.
@@ -89,7 +84,7 @@ fn is_spelled_line(own: &[u8], ends: &[usize], text: &[u8]) -> bool
     if text.len() > Spelling::LONGEST {
         return false;
     }
-    lines::is_line(own, ends, text)
+    list_lines::is_line(own, ends, text)
 }
 
 // Whether the text of the quoted string that starts at a place is spelled as a line, where it is longer than an entry.
@@ -97,7 +92,7 @@ fn is_long_quoted_line(own: &[u8], ends: &[usize], body: &[u8], at: usize) -> bo
     ensures { λ r. ⌜ r ≡ amongSpelled (cutAt (now (own .entry)) 0 (now (ends .entry))) (quotedText (drop at (now (body .entry)))) ⌝ }
 {
     let mut text = [0u8; UNSPELLED];
-    let n = texts::put_quoted(body, at, &mut text, 0);
+    let n = quoted_texts::put_quoted(body, at, &mut text, 0);
     if n > UNSPELLED {
         return false;
     }
@@ -109,7 +104,7 @@ fn is_quoted_line(own: &[u8], ends: &[usize], body: &[u8], at: usize) -> bool
     ensures { λ r. ⌜ r ≡ amongSpelled (cutAt (now (own .entry)) 0 (now (ends .entry))) (quotedText (drop at (now (body .entry)))) ⌝ }
 {
     let mut text = [0u8; Entries::LONGEST];
-    let n = texts::put_quoted(body, at, &mut text, 0);
+    let n = quoted_texts::put_quoted(body, at, &mut text, 0);
     if n > Entries::LONGEST {
         return is_long_quoted_line(own, ends, body, at);
     }
@@ -135,31 +130,6 @@ pub fn whose_among(own: &[u8], ends: &[usize], body: &[u8]) -> Own
     own_if(is_spelled_line(own, ends, &body[start..end]))
 }
 
-// Stores where a line ends, where there is room.
-fn store_end(e: usize, ends: &mut [usize], k: usize)
-    ensures { λ _. ⌜ now (ends .exit) ≡ set (now (ends .entry)) k e ⌝ }
-{
-    if k < ends.len() {
-        ends[k] = e;
-    }
-}
-
-// Stores where the lines of a list as it is compared end, as many as there is room for, and returns how many lines there are. Any bytes are taken
-// for such a list: a line is what stands before an LF, or before the end.
-pub fn line_ends(own: &[u8], ends: &mut [usize]) -> usize
-    ensures { λ r. ⌜ Put (now (ends .entry)) 0 (endsOf (now (own .entry))) (now (ends .exit)) r ⌝ }
-{
-    let mut at: usize = 0;
-    let mut k: usize = 0;
-    while at < own.len() {
-        let e = lines::line_end(own, at);
-        store_end(e, ends, k);
-        k += 1;
-        at = e + 1;
-    }
-    k
-}
-
 // Whose the identifier of a body is, by a list as it is compared. Any bytes are taken for one: so many lines at a time as a list has entries.
 pub fn whose_spelled(own: &[u8], body: &[u8]) -> Own
     ensures { λ r. ⌜ r ≡ ownOfSpelled (linesOf (now (own .entry))) (identifier (now (body .entry))) ⌝ }
@@ -167,7 +137,7 @@ pub fn whose_spelled(own: &[u8], body: &[u8]) -> Own
     let mut at: usize = 0;
     loop {
         let mut ends = [0usize; Entries::ENTRIES];
-        let n = line_ends(&own[at..], &mut ends);
+        let n = list_lines::line_ends(&own[at..], &mut ends);
         if n <= Entries::ENTRIES {
             return whose_among(&own[at..], &ends[..n], body);
         }
@@ -189,7 +159,7 @@ pub fn whose_spelled(own: &[u8], body: &[u8]) -> Own
 pub fn whose(list: &[u8], body: &[u8]) -> Own
     ensures { λ r. ⌜ r ≡ ownOf (ownList (now (list .entry)) .items) (identifier (now (body .entry))) ⌝ }
 {
-    let mut own = [0u8; SPELLED];
+    let mut own = spelled_room::spelled();
     let n = spell_list(list, &mut own);
     whose_spelled(&own[..n], body)
 }

@@ -13,22 +13,22 @@ use Rattle.lexis_rules.specs.Limits.{byteLimit}
 use Rattle.block_rules.specs.Fields.{fieldLimit, fields, bytesOf}
 use Rattle.authserv_rules.specs.OwnList.{ownList}
 use Rattle.strip_rules.specs.Told as strip-told
-use Rattle.strip_rules.proofs.Ways as strip-ways
+use Rattle.strip_laws.proofs.Ways as strip-ways
 use Rattle.body.specs.Body.{Head, newer, reading}
 use Rattle.body.specs.Report.{idLine, versionLine}
 use Rattle.body.specs.Told.{numberOf, textOf, hasReport}
-use Rattle.body.proofs.Headlines as report-laws
-use Rattle.body.proofs.Ways as report-ways
+use Rattle.body_laws.proofs.Headlines as report-laws
+use Rattle.body_laws.proofs.Ways as report-ways
 use Rattle.arc_rules.specs.Told.{BadVerdicts}
-use Rattle.arc_rules.proofs.Ways as judge-ways
-use Rattle.arc_rules.proofs.Headlines as judge-laws
+use Rattle.arc_laws.proofs.Ways as judge-ways
+use Rattle.arc_laws.proofs.Headlines as judge-laws
 use Rattle.fields_rules.specs.declared.Step.the-variants.{Last}
 use Rattle.fields_rules.specs.Steps.{given, lastOf}
 use Rattle.fields_rules.specs.Whole.{stepsFrom, inOrder, First}
 use Rattle.fields_rules.proofs.Headlines as step-laws
 use Rattle.compose.specs.Compose.{compose}
 use Rattle.compose.specs.Promise.{HasBody, bodyFor, TooLong, TooShort, Fits, Placed}
-use Rattle.compose.proofs.Headlines as write-laws
+use Rattle.compose_laws.proofs.Headlines as write-laws
 use Rattle.promises.specs.Exactly.{Exactly}
 use Rattle.promises.specs.Calls.{strips, reports, writes, judges, steps}
 

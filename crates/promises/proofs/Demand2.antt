@@ -17,22 +17,22 @@ use Rattle.body.specs.Report.{idLine, lines, ignoredOf}
 use Rattle.resinfo_rules.specs.Results.{Result}
 use Rattle.body.specs.Told.{numberOf, textOf, countOf}
 use Rattle.body.proofs.Opened as body-opened
-use Rattle.body.proofs.Ways as report-ways
-use Rattle.body.proofs.Rooms as rooms
+use Rattle.body_laws.proofs.Ways as report-ways
+use Rattle.body_laws.proofs.Rooms as rooms
 use Rattle.strip_rules.specs.Strip.{strip}
 use Rattle.strip_rules.specs.ByFields.{Kept}
 use Rattle.strip_rules.specs.Told.{Known, keptFields, removedFields}
 use Rattle.strip_rules.proofs.Examples as strip-opened
-use Rattle.strip_rules.proofs.Headlines as strip-laws
-use Rattle.strip_rules.proofs.ByFields as strip-fields
-use Rattle.strip_rules.proofs.Ways as strip-ways
+use Rattle.strip_laws.proofs.Headlines as strip-laws
+use Rattle.strip_laws.proofs.ByFields as strip-fields
+use Rattle.strip_laws.proofs.Ways as strip-ways
 use Rattle.arc_rules.specs.Chain.{outcome, built, failed, validFor, passes, oldestPass}
 use Rattle.arc_rules.specs.declared.Judged.{Judged}
 use Rattle.arc_rules.specs.Told as judge-told
 use Rattle.arc_rules.specs.Accepted.{kindOf, isArc, Accepted}
 use Rattle.arc_rules.proofs.Opened as arc-opened
-use Rattle.arc_rules.proofs.Ways as judge-ways
-use Rattle.arc_rules.proofs.Headlines as judge-laws
+use Rattle.arc_laws.proofs.Ways as judge-ways
+use Rattle.arc_laws.proofs.Headlines as judge-laws
 use Rattle.promises.specs.Exactly.{Exactly}
 use Rattle.promises.specs.Calls.{strips, reports, judges}
 
@@ -87,6 +87,7 @@ room-example : reports (bytes "a") (bytes ".......") .answer .number ≡ 6 → �
 room-example = report-room (bytes "a") (bytes ".......") (lit≤ tt)
 
 -- ==== Stripping removes exactly the Authentication-Results fields whose identifier is on our own list or can't be read, and keeps every
+
 -- other byte in order
 
 module _ (block list old : List ℕ) (z : strips block list old .answer .number ≡ 0) where
@@ -139,6 +140,7 @@ unfolding strip-opened.opened
 repeated-example block room = strip-repeated block (bytes "a\nb\n") (bytes "a\nb\na\n") room (bytes "a") [] (bytes "b" ∷ []) [] refl refl
 
 -- ==== An ARC structure is accepted exactly when every ARC field reads, and instances 1 to N, N from 1 to 50, each have one field of each
+
 -- kind and the chain values RFC 8617 prescribes
 
 -- for every block within the limit whose walk comes to its end, and N verdicts from 0 to 3

@@ -12,11 +12,12 @@ use Rattle.body.specs.Body.{reading}
 use Rattle.body.specs.Newer.{Names, WithinLimit, WellFormed, resultsOf, IsResult}
 use Rattle.body.specs.Beside.{insertionPlaces, insertAt}
 use Rattle.body.proofs.Opened as body-opened
-use Rattle.body.proofs.Demand3 as demand3
-use Rattle.body.proofs.Ignored.{insertAt-length}
+use Rattle.body_laws.proofs.Demand3 as demand3
+use Rattle.body_laws.proofs.Ignored.{insertAt-length}
 use Rattle.promises.specs.Calls.{Reporting, reports}
 
 -- ==== If two fields name the same header version, other than 1, and have the same bytes up to the end of that number, they get the same
+
 -- answer and report, whatever follows it in each
 
 -- for fields within the size limit
@@ -31,6 +32,7 @@ header-example =
     (record { identifier = bytes "a"; reads = refl }) demand3.two-not-one refl (lit≤ tt) (lit≤ tt)
 
 -- ==== Take any well-formed version 1 field with at least one result, and put any well-formed result whose method version isn't 1 before or
+
 -- after any of its results: the answer stays, the report is the same byte for byte, and where it fits the ignored count is one higher
 
 -- x is y with one ignored result more

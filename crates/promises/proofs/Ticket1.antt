@@ -10,7 +10,7 @@ use Rattle.body.specs.Report.{report}
 use Rattle.compose.specs.Compose.{compose}
 use Rattle.compose.specs.Promise.{Reports, HasBody, Placed, bodyFor}
 use Rattle.compose.proofs.Opened as compose
-use Rattle.compose.proofs.Headlines as written
+use Rattle.compose_laws.proofs.Headlines as written
 use Rattle.promises.specs.Calls.{reports, writes}
 
 -- ==== For every list of lines it accepts, reading the written body gives the same lines back with an ignored count of zero
@@ -45,6 +45,7 @@ pub body-reports : (lines : List ℕ) → HasBody lines → Reports (bodyFor lin
 body-reports = written.body-reports
 
 -- ==== Its place is the first line, from 1, up to which the lines can begin no such report .. or, where they only stop too early, one more
+
 -- than their count
 
 -- there is only one place that this rule allows; that it is the one answered is `write-place-11` in Demand1

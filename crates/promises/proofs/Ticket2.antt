@@ -13,7 +13,7 @@ use Rattle.punycode_rules.specs.Punycode.{basic}
 use Rattle.punycode_rules.specs.Unicode.{utf8s}
 use Rattle.punycode_rules.specs.Labels.{decoded, prefixed, labels, anyPrefixed}
 use Rattle.authserv_rules.specs.Identifier.{sameIdentifier}
-use Rattle.authserv_rules.proofs.Headlines as identifiers
+use Rattle.authserv_laws.proofs.Headlines as identifiers
 use Rattle.authserv_rules.proofs.Examples.{opened}
 
 -- ==== it is an equality

@@ -12,10 +12,10 @@ use Rattle.lexis_rules.specs.declared.VersionNumber.the-variants.{Exact, Large}
 use Rattle.lexis_rules.specs.Pieces.{decimal}
 use Rattle.lexis_rules.specs.Words.{counted}
 use Rattle.lexis_rules.specs.Numbers.{largest, numberOf, isOne}
-use Rattle.lexis_rules.proofs.VersionNumbers as numbers
+use Rattle.lexis_laws.proofs.VersionNumbers as numbers
 use Rattle.body.specs.Newer.{Names, WithinLimit}
 use Rattle.body.proofs.Opened as body-opened
-use Rattle.body.proofs.Demand3 as demand3
+use Rattle.body_laws.proofs.Demand3 as demand3
 use Rattle.promises.specs.Calls.{reports}
 
 -- ==== It is to answer the number up to 999,999 and "large" above that

@@ -19,8 +19,8 @@ use Rattle.punycode_rules.specs.Unicode.{scalars, utf8s}
 use Rattle.punycode_rules.specs.Labels.{decoded, prefixed, spelled, spelling, spellingLimit, inLabel}
 use Rattle.punycode.specs.Internal.{Spells, Spelt}
 use Rattle.code_points.specs.Answers.{Tells}
-use Rattle.punycode_rules.proofs.Encoding.{utf8s-bounds}
-use Rattle.punycode_rules.proofs.Spelling.{spelled-plain, spelled-failed, spelled-some, scalars-of, end-low, here-last, here-more}
+use Rattle.punycode_laws.proofs.Encoding.{utf8s-bounds}
+use Rattle.punycode_laws.proofs.Spelling.{spelled-plain, spelled-failed, spelled-some, scalars-of, end-low, here-last, here-more}
 
 -- ==== the prefix
 

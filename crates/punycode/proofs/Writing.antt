@@ -11,7 +11,7 @@ use borrow.Author.Tests.{lt-ltb, le-ltb}
 use Rattle.sequences.specs.Stored.{Put}
 use Rattle.sequences.proofs.Splices.{Left, left-start, left-step, left-done, put-wrote, wrote-put}
 use Rattle.punycode_rules.specs.Unicode.{scalars, utf8, utf8s}
-use Rattle.punycode_rules.proofs.Encoding.{utf8-bounds, scalars-first}
+use Rattle.punycode_laws.proofs.Encoding.{utf8-bounds, scalars-first}
 
 module _ (x : ℕ) (o : List ℕ) (to : ℕ) where
   pub point-one : x < 128 → (a : List ℕ) → a ≡ set o to x → Put o to (utf8 x) a 1

@@ -1,15 +1,2 @@
-pub mod Headlines
 pub mod Opened
 pub mod Samples
-pub mod Lists
-pub mod Digits
-pub mod Adapting
-pub mod Decoding
-pub mod Encoding
-pub mod Basics
-pub mod Spelling
-pub mod Hyphens
-pub mod Lengths
-pub mod Absent
-pub mod ALabels
-pub mod Case

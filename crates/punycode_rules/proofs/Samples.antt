@@ -1,4 +1,5 @@
 -- Computed samples: the strings of RFC 3492, section 7.1, a trace of its section 7.2, and the edges of 02, ticket [2]. Assumes nothing.
+use Prim.Native.Nat.{_*_}
 use mathlib.Core.Path.{_≡_, refl}
 use mathlib.Core.Bool.{true, false}
 use mathlib.Core.List.{[], _∷_, _++_}
@@ -6,7 +7,7 @@ use mathlib.Core.Option.{none, some}
 use Rattle.reading.specs.Texts.{bytes}
 use Rattle.reading.proofs.Cases.{case, Says}
 use Rattle.punycode_rules.specs.Punycode.{adapt, punycode}
-use Rattle.punycode_rules.specs.Labels.{labels, decoded, spelling, anyPrefixed, doubleHyphen}
+use Rattle.punycode_rules.specs.Labels.{labels, decoded, spelling, anyPrefixed, spellingLimit, doubleHyphen}
 use Rattle.punycode_rules.proofs.Opened.{opened}
 
 -- ==== RFC 3492, section 7.1: the sample strings
@@ -180,3 +181,7 @@ hyphens = refl
 prefixes : Says (λ t. anyPrefixed (labels t)) (case (bytes "a.xN--b") true ∷ case (bytes "a.xn-b") false ∷ case (bytes "a.mxn--b") false ∷ [])
 unfolding opened
 prefixes = refl
+
+-- an entry has 255 bytes at most, and none stands for more than four of its spelling
+limit : spellingLimit ≡ 255 * 4
+limit = refl

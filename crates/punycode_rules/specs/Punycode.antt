@@ -39,7 +39,7 @@ digitOf x =
 
 -- section 6.1: while delta > ((base - tmin) * tmax) div 2, let delta = delta div (base - tmin) and k = k + base; then the bias is
 -- k + (((base - tmin + 1) * delta) div (delta + skew)). `turns` bounds how often: delta turns are enough, since each makes it smaller
--- (`adapt-turn` in proofs/Adapting.antt)
+-- (`adapt-turn` in punycode_laws/proofs/Adapting.antt)
 unfoldable pub scaled : ℕ → ℕ → ℕ → ℕ
 scaled zero k delta = k + (base - tmin + 1) * delta / (delta + skew)
 scaled (suc turns) k delta =

@@ -17,8 +17,8 @@ use Rattle.resinfo_rules.specs.Results.{Kind, Quoted, Mailbox, AtDomain, Value,
 use Rattle.body.specs.Report.{plain, escape}
 use Rattle.compose.specs.Entries.{whole, isText, localOf, domainOf, stands, kindOf}
 use Rattle.compose.specs.Bodies.{bareOr, isBareLocal, pvalue}
-use Rattle.compose.proofs.Values.{domain-each}
-use Rattle.compose.proofs.Signs.{plain-sign, escape-same, dots-raw}
+use Rattle.compose_laws.proofs.Values.{domain-each}
+use Rattle.compose_laws.proofs.Signs.{plain-sign, escape-same, dots-raw}
 use Rattle.columns.specs.declared.coded.Test.the-variants as test
 use Rattle.columns.specs.Internal.{textOf, inTest, IsCoded}
 use Rattle.columns.proofs.Shapes.{mailbox-unsigned, local-text, front-is, raw-local, raw-domain, cut-long, rest-all}

@@ -72,7 +72,7 @@ fn put_local(l: &[u8], out: &mut [u8], to: usize) -> usize
     ensures { λ r. ⌜ Clipped (now (out .entry)) to (writtenLocal (now (l .entry))) (now (out .exit)) r ⌝ }
 {
     if columns::coded::is_bare(l, 0, Test::Local) {
-        return put_value(l, 0, values::has_single_dots(l), out, to);
+        return put_value(l, 0, domains::has_single_dots(l), out, to);
     }
     put_value(l, 0, false, out, to)
 }

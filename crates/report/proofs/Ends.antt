@@ -21,7 +21,7 @@ use Rattle.authserv.specs.Answers.{identifierAt}
 use Rattle.authserv.proofs.Identifiers.{identifier-not}
 use Rattle.body.specs.Body.{Reading, unreadable, malformed, newer, noResult, results, head, reading}
 use Rattle.body.specs.Report.{refusal, fitted, answer, report}
-use Rattle.body.proofs.Readings.{report-is}
+use Rattle.body_laws.proofs.Readings.{report-is}
 use Rattle.body.specs.declared.Reported.{Reported}
 use Rattle.body.specs.Answers.{answerOf, leaves}
 use Rattle.report.specs.Internal.{wholeText, refused, wholeAnswer, Said}

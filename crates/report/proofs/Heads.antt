@@ -24,7 +24,7 @@ use Rattle.lexis_rules.specs.Bytes.{inClass}
 use Rattle.lexis_rules.specs.Pieces.{space, digits, leading}
 use Rattle.lexis_rules.specs.Numbers.{numberOf, isOne}
 use Rattle.lexis_rules.specs.Words.{counted}
-use Rattle.lexis_rules.proofs.VersionNumbers.{leading-le, number-counted}
+use Rattle.lexis_laws.proofs.VersionNumbers.{leading-le, number-counted}
 use Rattle.authserv.specs.declared.Identifier.the-variants.{Readable}
 use Rattle.authserv.specs.declared.Version.the-variants.{Absent, Stated}
 use Rattle.authserv_rules.specs.Identifier.{identifier}
@@ -36,10 +36,10 @@ use Rattle.resinfo_rules.specs.Results.{Result}
 use Rattle.values.specs.Values.{span}
 use Rattle.body.specs.Body.{Head, Reading, malformed, newer, noResult, results, head, resinfos, wordNone, payload, headed, reading}
 use Rattle.body.specs.Report.{line, idLine, versionLine, noneLine, lines}
-use Rattle.body.proofs.Readings.{reading-is, first-one, headed-is}
+use Rattle.body_laws.proofs.Readings.{reading-is, first-one, headed-is}
 use Rattle.body.specs.declared.Reported.{Reported}
 use Rattle.report.specs.Internal.{refused, Behind, newerAt, headedAt, Said}
-use Rattle.body.proofs.Sizes.{id-size}
+use Rattle.body_laws.proofs.Sizes.{id-size}
 use Rattle.report.proofs.Fronts.{wrote-fronted, fronted-then}
 use Rattle.report.proofs.Payloads.{Room, behind-malformed}
 

@@ -18,8 +18,8 @@ use Rattle.body.specs.Report.{report}
 use Rattle.body.specs.Answers.{answerOf}
 use Rattle.body.specs.Told.{told}
 use Rattle.body.specs.declared.Reported.{Reported}
-use Rattle.body.proofs.Rooms.{text-size}
-use Rattle.body.proofs.Ways.{when-one, when-told}
+use Rattle.body_laws.proofs.Rooms.{text-size}
+use Rattle.body_laws.proofs.Ways.{when-one, when-told}
 use Rattle.report.specs.Internal.{refused, wholeAnswer, Said}
 use Rattle.report.proofs.Ends.{reading-not}
 

@@ -14,14 +14,14 @@ use Rattle.reading.proofs.Repeats.{list-none, end-none, further, list-more, end
 use Rattle.lexis_rules.specs.Limits.{byteLimit}
 use Rattle.resinfo_rules.specs.Results.{Result}
 use Rattle.resinfo_rules.specs.Table.{understood}
-use Rattle.resinfo.specs.Parts.{spaced}
+use Rattle.result_parts.specs.Parts.{spaced}
 use Rattle.body.specs.Body.{resinfo}
 use Rattle.body.specs.Report.{resultLines, lines, ignoredOf}
-use Rattle.body.proofs.Sequence.{resinfo-within}
+use Rattle.body_laws.proofs.Sequence.{resinfo-within}
 use Rattle.report.specs.declared.results.Turn.{Turn}
 use Rattle.report.specs.declared.results.Turn.the-variants as turn
 use Rattle.report.specs.Internal.{turnLines, TurnRead, TurnPut, ResultsPut}
-use Rattle.body.proofs.Sizes.{resinfo-size}
+use Rattle.body_laws.proofs.Sizes.{resinfo-size}
 use Rattle.report.proofs.Fronts.{Fronting, fronting-start, fronting-step, fronting-over, fronting-end, fronting-done}
 
 -- ==== one result more

@@ -24,18 +24,18 @@ use Rattle.lexis_rules.specs.Bytes.{lower, alike}
 use Rattle.lexis_rules.specs.Pieces.{space, keyword}
 use Rattle.lexis_rules.specs.Words.{keywordText, skip, readKeyword, readWord}
 use Rattle.resinfo_rules.specs.Results.{Result, mark}
-use Rattle.resinfo.specs.Parts.{spaced, marked, markedFrom}
+use Rattle.result_parts.specs.Parts.{spaced, marked, markedFrom}
 use Rattle.values.specs.Values.{span}
-use Rattle.resinfo.proofs.Marks.{mark-is, mark-reads, mark-found, keyword-reads, marked-no}
+use Rattle.result_parts.proofs.Marks.{mark-is, mark-reads, mark-found, keyword-reads, marked-no}
 use Rattle.body.specs.Body.{Reading, malformed, noResult, results, resinfo, resinfos, wordNone, payload}
 use Rattle.body.specs.Report.{line, noneLine, lines}
-use Rattle.body.proofs.Readings.{payload-is}
-use Rattle.body.proofs.Sequence.{resinfo-within, Reads, over, more, reads-inv}
-use Rattle.body.proofs.NoResult.{word-no-result}
+use Rattle.body_laws.proofs.Readings.{payload-is}
+use Rattle.body_laws.proofs.Sequence.{resinfo-within, Reads, over, more, reads-inv}
+use Rattle.body_laws.proofs.NoResult.{word-no-result}
 use Rattle.body.specs.declared.Reported.{Reported}
 use Rattle.report.specs.declared.results.Results.{Results}
 use Rattle.report.specs.Internal.{succeeds, refused, Fronted, Behind, ResultsPut}
-use Rattle.body.proofs.Sizes.{lines-size}
+use Rattle.body_laws.proofs.Sizes.{lines-size}
 use Rattle.report.proofs.Fronts.{wrote-fronted, fronted-none}
 
 -- ==== whether a parser succeeds at a place

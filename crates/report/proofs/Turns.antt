@@ -27,24 +27,24 @@ use Rattle.authserv.specs.Answers.{textOf}
 use Rattle.resinfo.specs.declared.Step.{Step}
 use Rattle.resinfo.proofs.Step.{the-type}
 use Rattle.resinfo.specs.declared.Step.the-variants as step
-use Rattle.resinfo.specs.declared.parts.Label.{Label}
-use Rattle.resinfo.specs.declared.parts.Label.the-variants as label
-use Rattle.resinfo.specs.declared.parts.Method.the-variants as method
-use Rattle.resinfo.specs.declared.parts.Reason.the-variants.{Stated, Absent}
+use Rattle.result_parts.specs.declared.Label.{Label}
+use Rattle.result_parts.specs.declared.Label.the-variants as label
+use Rattle.result_parts.specs.declared.Method.the-variants as method
+use Rattle.result_parts.specs.declared.Reason.the-variants.{Stated, Absent}
 use Rattle.values.specs.declared.Found.{Found}
 use Rattle.values.specs.declared.Found.the-variants as found
 use Rattle.values.specs.declared.Value as place
 use Rattle.resinfo_rules.specs.Results.{Property, Methodspec, Result, next, reason, property, methodspec, result}
 use Rattle.values.specs.Values.{span, valueOf, valueAt}
-use Rattle.resinfo.specs.Parts.{spaced, marked, markedFrom, methodAt, reasonFrom, reasonGot, labelAt}
+use Rattle.result_parts.specs.Parts.{spaced, marked, markedFrom, methodAt, reasonFrom, reasonGot, labelAt}
 use Rattle.resinfo.specs.Steps.{isEnd, endOf, propertyOf, stepOf, stepFrom, stepAt, propertyGot}
 use Rattle.resinfo_rules.specs.Table.{listed, tabled, table, ptypes, knownVersion, knownMethod, knownTypes, understood}
-use Rattle.resinfo.proofs.Marks.{marked-yes, marked-no, mark-found}
-use Rattle.resinfo.proofs.Methods.{method-found, method-not}
-use Rattle.resinfo.proofs.Reasons.{reason-got}
+use Rattle.result_parts.proofs.Marks.{marked-yes, marked-no, mark-found}
+use Rattle.result_parts.proofs.Methods.{method-found, method-not}
+use Rattle.result_parts.proofs.Reasons.{reason-got}
 use Rattle.resinfo.proofs.Steps.{step-got}
-use Rattle.resinfo.proofs.PartPlaces.{label-places}
-use Rattle.resinfo_rules.proofs.Results.{property-within}
+use Rattle.result_parts.proofs.PartPlaces.{label-places}
+use Rattle.resinfo_laws.proofs.Results.{property-within}
 use Rattle.body.specs.Body.{resinfo}
 use Rattle.body.specs.Report.{methodLine, reasonLine, propertyLine, propertyLines, resultLines}
 use Rattle.report.specs.declared.results.Details.{Details}

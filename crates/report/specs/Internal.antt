@@ -15,7 +15,7 @@ use Rattle.lexis_rules.specs.Bytes.{inClass}
 use Rattle.authserv_rules.specs.Version.{stated, headerVersion}
 use Rattle.resinfo_rules.specs.Results.{Property, Result, reason, property}
 use Rattle.values.specs.Values.{span}
-use Rattle.resinfo.specs.Parts.{spaced}
+use Rattle.result_parts.specs.Parts.{spaced}
 use Rattle.resinfo_rules.specs.Table.{knownTypes, understood}
 use Rattle.body.specs.Body.{Reading, unreadable, malformed, newer, noResult, results, resinfo, headed}
 use Rattle.body.specs.Report.{idLine, versionLine, noneLine, reasonLine, propertyLines, resultLines, lines, ignoredOf}

@@ -21,7 +21,7 @@ ghost use Rattle.sequences.specs.Stored.{cap};
 ghost use Rattle.reading.specs.Texts.{bytes};
 ghost use Rattle.lexis_rules.specs.Limits.{byteLimit};
 ghost use Rattle.authserv.specs.Answers.{identifierAt};
-ghost use Rattle.resinfo.specs.Parts.{spaced};
+ghost use Rattle.result_parts.specs.Parts.{spaced};
 ghost use Rattle.body.specs.Body.{wordNone, payload, headed, reading};
 ghost use Rattle.body.specs.Report.{report};
 ghost use Rattle.body.specs.Answers.{answerOf, leaves};
@@ -45,15 +45,15 @@ fn says_none(s: &[u8], at: usize, gap: usize) -> bool
     requires { ⌜ gap ≡ spaced (now s) at ⌝ }
     ensures { λ r. ⌜ r ≡ succeeds wordNone (drop at (now (s .entry))) ⌝ }
 {
-    let a = resinfo::parts::mark_from(s, at, gap, b';');
+    let a = result_parts::mark_from(s, at, gap, b';');
     if a == at {
         return false;
     }
-    let e = lexis::keyword_end(s, a);
+    let e = tokens::keyword_end(s, a);
     if e == a {
         return false;
     }
-    if texts::same_text(&s[a..e], b"none") {
+    if comparing::same_text(&s[a..e], b"none") {
         return lexis::space_end(s, e) >= s.len();
     }
     false
@@ -124,7 +124,7 @@ fn put_headed(s: &[u8], at: usize, out: &mut [u8], to: usize) -> Reported
 {
     match authserv::version_at(s, at) {
         Version::Stated { start, end, number } => {
-            if lexis::is_one(number) {
+            if digit_runs::is_one(number) {
                 return put_version_one(s, end, out, to);
             }
             put_newer(s, start, end, out, to)

@@ -7,8 +7,8 @@
 // (`gap`).
 use lexis_rules::VersionNumber;
 use resinfo::Step;
-use resinfo::parts::Method;
-use resinfo::parts::Reason;
+use result_parts::Method;
+use result_parts::Reason;
 ghost use mathlib.Core.Path.{_≡_};
 ghost use mathlib.Core.Bool.{_&&_};
 ghost use mathlib.Core.List.{map};
@@ -19,7 +19,7 @@ ghost use Rattle.lexis_rules.specs.Limits.{byteLimit};
 ghost use Rattle.lexis_rules.specs.Bytes.{lower};
 ghost use Rattle.resinfo_rules.specs.Results.{reason, property};
 ghost use Rattle.resinfo_rules.specs.Table.{listed, tabled, table, ptypes, knownVersion};
-ghost use Rattle.resinfo.specs.Parts.{spaced};
+ghost use Rattle.result_parts.specs.Parts.{spaced};
 ghost use Rattle.body.specs.Body.{resinfo};
 ghost use Rattle.body.specs.Report.{reasonLine, propertyLines, lines};
 ghost use Rattle.report.specs.Internal.{optionAt, detailLines, turnLines, ReasonPut, PropertiesPut, DetailsPut, TurnPut, ResultsPut};
@@ -47,7 +47,7 @@ fn knows_ptype(known: bool, ptype: &[u8]) -> bool
 fn knows_method(version: VersionNumber, method: &[u8], result: &[u8]) -> bool
     ensures { λ r. ⌜ r ≡ (knownVersion (map lower (now (method .entry))) version && tabled table (map lower (now (method .entry))) (map lower (now (result .entry)))) ⌝ }
 {
-    if lexis::is_one(version) {
+    if digit_runs::is_one(version) {
         return methods::is_tabled(method, result);
     }
     false
@@ -108,7 +108,7 @@ fn put_reason(s: &[u8], at: usize, out: &mut [u8], to: usize) -> Stated
     ensures { λ r. ⌜ ReasonPut (now (s .entry)) at (now (out .entry)) to (now (out .exit)) r ⌝ }
 {
     let gap = lexis::space_end(s, at);
-    match resinfo::parts::reason_from(s, at, gap) {
+    match result_parts::reason_from(s, at, gap) {
         Reason::Stated { start, end, quoted } => {
             let n = report_lines::put_reason(s, start, end, quoted, out, to);
             Stated {
@@ -151,11 +151,11 @@ fn put_result(s: &[u8], at: usize, gap: usize, out: &mut [u8], to: usize) -> Tur
     requires { ⌜ (gap ≡ spaced (now s) at) × (to + length (turnLines (now s) at) < 2 ^ 64) ⌝ }
     ensures { λ r. ⌜ TurnPut (now (s .entry)) at (now (out .entry)) to (now (out .exit)) r ⌝ }
 {
-    let a = resinfo::parts::mark_from(s, at, gap, b';');
+    let a = result_parts::mark_from(s, at, gap, b';');
     if a == at {
         return Turn::Missing;
     }
-    match resinfo::parts::method_at(s, a) {
+    match result_parts::method_at(s, a) {
         Method::Read {
             start,
             end,

@@ -16,13 +16,15 @@ use Rattle.listing.specs.declared.Checked.the-variants.{Good, Bad}
 use Rattle.listing.specs.Steps.{checkedOf, numberOf, placeOf}
 use Rattle.listing.proofs.Headlines.{check-number, check-place}
 use Rattle.block_rules.specs.Fields.{fields}
-use Rattle.block_rules.proofs.Fields.{fields-place}
+use Rattle.block_laws.proofs.Fields.{fields-place}
 use Rattle.punycode_rules.specs.Labels.{doubleHyphen}
 use Rattle.authserv_rules.specs.declared.Own.{Own}
 use Rattle.authserv_rules.specs.OwnList.{ownList}
 use Rattle.authserv_rules.specs.Listed.{ownOf}
 use Rattle.authserv_rules.specs.Spelled.{spelledList, linesOf, ownOfSpelled}
-use Rattle.authserv_rules.proofs.Headlines.{list-own, list-plain}
+use Rattle.spelled_room.proofs.Fits.{fits-room}
+use Rattle.authserv_laws.proofs.Headlines.{list-own, list-plain}
+use Rattle.authserv_laws.proofs.OwnLists.{list-length}
 use Rattle.reports_rules.specs.declared.BlockReported.{BlockReported}
 use Rattle.reports_rules.specs.Reports.{Answer, refuse, fitted, orRefusal, reportFields, reports}
 use Rattle.reports_rules.specs.Answers.{answerOf, leaves}
@@ -83,15 +85,15 @@ module _ (s : List ℕ) (whose : Got (List ℕ) → Own) (old : List ℕ) (r m :
         same : (r : BlockReported) (n p w : ℕ) → r .number ≡ n → r .place ≡ p → r .written ≡ w → r ≡ record { number = n; place = p; written = w }
         same r n p w e₀ e₁ e₂ = rw (← e₀, ← e₁, ← e₂)
 
--- by the list as it was spelled into a buffer
-pub answer-spelled : (s list old new : List ℕ) (r : BlockReported) (first own : List ℕ) (n : ℕ) → Put first 0 (spelledList (ownList list .items)) own n → n ≤ length first
-    → Answered (reportFields s (ownOfSpelled (linesOf (take n own))) (length old)) old new r
-    → Answered (reportFields s (ownOf (ownList list .items)) (length old)) old new r
-answer-spelled s list old new r first own n w h a =
-    let f : take n own ≡ spelledList (ownList list .items) = put-front w h in
-    let e : reportFields s (ownOfSpelled (linesOf (take n own))) (length old) ≡ reportFields s (ownOf (ownList list .items)) (length old) =
-    rw f (same-reported (ownOfSpelled (linesOf (spelledList (ownList list .items)))) (ownOf (ownList list .items)) (list-own list) s (length old)) in
-    meant _ _ old new r e a
+-- by the list as it was spelled into a buffer that holds the longest
+module _ (list first own : List ℕ) (n : ℕ) (w : Put first 0 (spelledList (ownList list .items)) own n) (k : 65344 ≡ length first) where
+  pub answer-spelled : (s old new : List ℕ) (r : BlockReported) → Answered (reportFields s (ownOfSpelled (linesOf (take n own))) (length old)) old new r
+      → Answered (reportFields s (ownOf (ownList list .items)) (length old)) old new r
+  answer-spelled s old new r a =
+      let f : take n own ≡ spelledList (ownList list .items) = put-front w (fits-room list first own n w k) in
+      let e : reportFields s (ownOfSpelled (linesOf (take n own))) (length old) ≡ reportFields s (ownOf (ownList list .items)) (length old) =
+      rw f (same-reported (ownOfSpelled (linesOf (spelledList (ownList list .items)))) (ownOf (ownList list .items)) (list-own list) s (length old)) in
+      meant _ _ old new r e a
 
 -- ==== the whole
 

@@ -1,4 +1,3 @@
 pub mod Rooms
-pub mod Bodies
 pub mod Passes
 pub mod Ends

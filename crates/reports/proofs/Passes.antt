@@ -14,8 +14,9 @@ use Rattle.block.proofs.Steps.{Rest, step-field, step-end, step-refused, part-n
 use Rattle.authserv_rules.specs.declared.Own.{Own}
 use Rattle.reports_rules.specs.Reports.{addition, additions}
 use Rattle.reports_rules.proofs.Sizes.{addition-size}
-use Rattle.reports.specs.Internal.{PutIfRoom, textBefore, FieldsPut}
-use Rattle.reports.proofs.Rooms.{Filling, filling-start, filling-step, filling-done}
+use Rattle.field_reports.specs.Addends.{fieldAddend, placeAfter, bufferAfter}
+use Rattle.reports.specs.Internal.{textBefore, FieldsPut}
+use Rattle.reports.proofs.Rooms.{addend-put, Filling, filling-start, filling-step, filling-done}
 
 -- the loop stands at a place, after so many fields, and the text so far ends at `to`
 pub record Telling (s : List ℕ) (whose : Got (List ℕ) → Own) (old out : List ℕ) (at count to : ℕ) : Type 0 where
@@ -45,13 +46,16 @@ module _ (s : List ℕ) (whose : Got (List ℕ) → Own) (old out : List ℕ) (a
     body-short : length (take (e - 2 - b) (drop b s)) ≤ e - 2 - b
     body-short = omega (arith, length-take (e - 2 - b) (drop b s))
 
-    pub telling-limit : length (take (e - 2 - b) (drop b s)) ≤ byteLimit
+    telling-limit : length (take (e - 2 - b) (drop b s)) ≤ byteLimit
     telling-limit = let c = step-field s at count a n b e q in omega (arith, body-short, c .inside, limit)
 
-    pub telling-field : (out′ : List ℕ) (to′ : ℕ) → PutIfRoom out to (addition whose (count + 1) (take (n - a) (drop a s)) (take (e - 2 - b) (drop b s))) out′ to′
+    counted : (out′ : List ℕ) (to′ : ℕ)
+        → (to′ ≡ placeAfter (fieldAddend whose (count + 1) (take (n - a) (drop a s)) (take (e - 2 - b) (drop b s))) to)
+        × (out′ ≡ bufferAfter (fieldAddend whose (count + 1) (take (n - a) (drop a s)) (take (e - 2 - b) (drop b s))) out to)
         → Telling s whose old out′ e (count + 1) to′
     unfolding additions
-    telling-field out′ to′ v =
+    counted out′ to′ u =
+        let v = addend-put whose (count + 1) (take (n - a) (drop a s)) (take (e - 2 - b) (drop b s)) out to out′ to′ telling-limit u in
         let c = step-field s at count a n b e q in
         let x = part-name s a n b e (c .named) (c .labelled) (c .bodied) (c .inside) in
         let y = part-body s a n b e (c .named) (c .labelled) (c .bodied) (c .inside) in
@@ -69,3 +73,10 @@ module _ (s : List ℕ) (whose : Got (List ℕ) → Own) (old out : List ℕ) (a
           inside = c .inside;
           small = omega (arith, m, v .place);
         }
+
+    -- the field is the k-th: one more than those before it
+    pub telling-field : (k : ℕ) (out′ : List ℕ) (to′ : ℕ)
+        → (to′ ≡ placeAfter (fieldAddend whose k (take (n - a) (drop a s)) (take (e - 2 - b) (drop b s))) to)
+        × (out′ ≡ bufferAfter (fieldAddend whose k (take (n - a) (drop a s)) (take (e - 2 - b) (drop b s))) out to)
+        → k ≡ count + 1 → Telling s whose old out′ e k to′
+    telling-field k out′ to′ u q = rw q (counted out′ to′ (rw q at u))

@@ -1,33 +1,37 @@
--- Texts that are written where there is room for all of them: one after the other, and in a loop. Assumes nothing.
-use Prim.Native.Nat.{ℕ, _+_, _≤_, _<_, _^_}
+-- Texts that are written where there is room for all of them: what a field adds, and in a loop what all fields add. Assumes nothing.
+use Prim.Native.Nat.{ℕ, _+_, _≤_, min}
 use native.Mathlib.Omega.{arith}
 use mathlib.Core.Path.{_≡_, refl, sym, ap, _∙_}
 use mathlib.Core.List.{List, [], _++_}
 use lib.ListN.{length, length-append}
 use lib.Seq.{sets}
-use Rattle.sequences.specs.Stored.{cap, Clipped}
-use Rattle.sequences.proofs.Clips.{clipped-long}
+use Rattle.sequences.specs.Stored.{cap}
 use Rattle.sequences.proofs.Splices.{sets-append}
-use Rattle.reports.specs.Internal.{PutIfRoom}
+use Rattle.reading.specs.Parsers.{Got}
+use Rattle.lexis_rules.specs.Limits.{byteLimit}
+use Rattle.authserv_rules.specs.declared.Own.{Own}
+use Rattle.reports_rules.specs.Reports.{addition}
+use Rattle.field_reports.specs.Addends.{fieldAddend, placeAfter, bufferAfter}
+use Rattle.field_reports.proofs.Headlines.{addend-is, addend-fits, addend-long}
 
--- nothing is written
-pub none-put : (old : List ℕ) (to : ℕ) → to < 2 ^ 64 → PutIfRoom old to [] old to
-none-put old to h = record { place = omega arith; long = refl; bytes = λ l. refl }
+-- `text` belongs in `old` from `to` on: where there is room for all of it the buffer then holds `new`, and else only its length is told. `next` is the
+-- place after the whole text, at most the largest one
+pub record PutIfRoom (old : List ℕ) (to : ℕ) (text new : List ℕ) (next : ℕ) : Type 0 where
+  pub place : next ≡ min (to + length text) cap
+  pub long : length new ≡ length old
+  pub bytes : to + length text ≤ length old → new ≡ sets old to text
 
--- a text that is written as far as it goes is written where there is room for it
-pub clipped-put : {old text new : List ℕ} {to next : ℕ} → Clipped old to text new next → PutIfRoom old to text new next
-clipped-put w = record { place = w .place; long = clipped-long w; bytes = λ l. w .bytes }
-
--- one text, and then another
-pub put-then : {a b c x y : List ℕ} {i j k : ℕ} → length a < 2 ^ 64 → PutIfRoom a i x b j → PutIfRoom b j y c k → PutIfRoom a i (x ++ y) c k
-put-then {a} {b} {c} {x} {y} {i} {j} {k} h v w =
+-- what a field adds is written
+pub addend-put : (whose : Got (List ℕ) → Own) (n : ℕ) (name s old : List ℕ) (to : ℕ) (new : List ℕ) (next : ℕ) → length s ≤ byteLimit
+    → (next ≡ placeAfter (fieldAddend whose n name s) to) × (new ≡ bufferAfter (fieldAddend whose n name s) old to) → PutIfRoom old to (addition whose n name s) new next
+addend-put whose n name s old to new next l w =
+    let a = fieldAddend whose n name s in
+    let e : a .line ++ a .text ≡ addition whose n name s = addend-is whose n name s l in
+    let k : length (addition whose n name s) ≡ length (a .line) + length (a .text) = ap length (sym e) ∙ length-append (a .line) (a .text) in
     record {
-      place = omega (arith, length-append x y, v .place, w .place);
-      long = w .long ∙ v .long;
-      bytes = λ l.
-          let n = length-append x y in
-          let q : j ≡ i + length x = omega (arith, v .place, l, n) in
-          w .bytes (omega (arith, l, n, q, v .long)) ∙ (rw (v .bytes (omega (arith, l, n)), q) (sym (sets-append a i x y)));
+      place = omega (arith, w .0, k);
+      long = ap length (w .1) ∙ addend-long a old to;
+      bytes = λ f. w .1 ∙ (addend-fits a old to (omega (arith, f, k)) ∙ ap (sets old to) e);
     }
 
 -- ==== loops: what is still to be written, `text` from `at` on, ends as `whole` from the start would have, where there is room for that

@@ -1,22 +1,14 @@
 -- What private functions say: no public contract cites these. Assumes nothing: these are definitions.
-use Prim.Native.Nat.{ℕ, _+_, _≤_, min}
+use Prim.Native.Nat.{ℕ, _≤_}
 use mathlib.Core.Path.{_≡_}
 use mathlib.Core.List.{List}
 use lib.ListN.{length}
 use lib.Seq.{sets}
-use Rattle.sequences.specs.Stored.{cap}
 use Rattle.reading.specs.Parsers.{Got}
 use Rattle.block_rules.specs.Fields.{fields}
 use Rattle.authserv_rules.specs.declared.Own.{Own}
 use Rattle.reports_rules.specs.declared.BlockReported.{BlockReported}
 use Rattle.reports_rules.specs.Reports.{additions}
-
--- `text` belongs in `old` from `to` on: where there is room for all of it the buffer then holds `new`, and else only its length is told. `next` is the
--- place after the whole text, at most the largest one
-pub record PutIfRoom (old : List ℕ) (to : ℕ) (text new : List ℕ) (next : ℕ) : Type 0 where
-  pub place : next ≡ min (to + length text) cap
-  pub long : length new ≡ length old
-  pub bytes : to + length text ≤ length old → new ≡ sets old to text
 
 -- what the fields up to the first refusal add
 abbrev pub textBefore : List ℕ → (Got (List ℕ) → Own) → List ℕ

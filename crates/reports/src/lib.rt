@@ -13,84 +13,20 @@
 //   6  `out` is too short: the bytes needed
 // tried in this order. A refusal writes nothing and returns 0 bytes written; bytes past those written stay unchanged.
 use answer_numbers::Number;
-use authserv_rules::Own;
 use block::Next;
 use block::Walk;
 use listing::Checked;
 use reports_rules::BlockReported;
 ghost use mathlib.Core.Path.{_≡_};
-ghost use Prim.Native.Nat.{_+_, _≤_, min};
+ghost use Prim.Native.Nat.{_≤_};
 ghost use lib.ListN.{length};
-ghost use Rattle.sequences.specs.Stored.{cap};
 ghost use Rattle.lexis_rules.specs.Limits.{byteLimit};
 ghost use Rattle.authserv_rules.specs.OwnList.{ownList};
 ghost use Rattle.authserv_rules.specs.Listed.{ownOf};
 ghost use Rattle.authserv_rules.specs.Spelled.{linesOf, ownOfSpelled};
-ghost use Rattle.body.specs.Body.{reading};
-ghost use Rattle.body.specs.Told.{textOf};
-ghost use Rattle.reports_rules.specs.Reports.{bodyLines, addition, reportFields, reports};
+ghost use Rattle.reports_rules.specs.Reports.{reportFields, reports};
 ghost use Rattle.reports_rules.specs.Answers.{answerOf, leaves};
-ghost use Rattle.reports.specs.Internal.{PutIfRoom, FieldsPut};
-
-// The largest place: no buffer reaches it.
-const LARGEST: usize = 18446744073709551615;
-
-// A sum, at most the largest place.
-fn sum(a: usize, b: usize) -> usize
-    ensures { λ r. ⌜ r ≡ min (a + b) cap ⌝ }
-{
-    if b < LARGEST - a {
-        return a + b;
-    }
-    LARGEST
-}
-
-// Writes the report of a body, which has `size` bytes, from a place on, where there is room for all of it.
-fn put_report(body: &[u8], size: usize, out: &mut [u8], to: usize) -> usize
-    requires { ⌜ (length (now body) ≤ byteLimit) × (size ≡ length (textOf (reading (now body)))) ⌝ }
-    ensures { λ r. ⌜ PutIfRoom (now (out .entry)) to (textOf (reading (now (body .entry)))) (now (out .exit)) r ⌝ }
-{
-    if to > out.len() {
-        return sum(to, size);
-    }
-    report::report(body, &mut out[to..]);
-    sum(to, size)
-}
-
-// Writes the line of the n-th field and a report of any length. It is measured first, because the line comes before it.
-fn put_long(n: usize, o: Own, body: &[u8], out: &mut [u8], to: usize) -> usize
-    requires { ⌜ length (now body) ≤ byteLimit ⌝ }
-    ensures { λ r. ⌜ PutIfRoom (now (out .entry)) to (bodyLines n o (now (body .entry))) (now (out .exit)) r ⌝ }
-{
-    let m = report::measure(body);
-    let at = field_lines::put_line(n, o, m.number, m.ignored, out, to);
-    put_report(body, m.written, out, at)
-}
-
-// Writes the line of the n-th field and its report, which is mostly short: then it is made in a buffer of its own and copied.
-fn put_body(n: usize, o: Own, body: &[u8], out: &mut [u8], to: usize) -> usize
-    requires { ⌜ length (now body) ≤ byteLimit ⌝ }
-    ensures { λ r. ⌜ PutIfRoom (now (out .entry)) to (bodyLines n o (now (body .entry))) (now (out .exit)) r ⌝ }
-{
-    let mut text = [0u8; 1024];
-    let m = report::report(body, &mut text);
-    if m.number == Number::TOO_SHORT {
-        return put_long(n, o, body, out, to);
-    }
-    let at = field_lines::put_line(n, o, m.number, m.ignored, out, to);
-    texts::put_part(&text[..m.written], out, at)
-}
-
-// Writes what the n-th field adds, which has this name and this body. `own` is our own list as it is compared.
-fn put_field(n: usize, own: &[u8], name: &[u8], body: &[u8], out: &mut [u8], to: usize) -> usize
-    requires { ⌜ length (now body) ≤ byteLimit ⌝ }
-    ensures { λ r. ⌜ PutIfRoom (now (out .entry)) to (addition (ownOfSpelled (linesOf (now (own .entry)))) n (now (name .entry)) (now (body .entry))) (now (out .exit)) r ⌝ }
-{
-    if texts::same_text(name, b"Authentication-Results") {
-        return put_body(n, ownlist::whose_spelled(own, body), body, out, to);
-    }
-    to
-}
+ghost use Rattle.reports.specs.Internal.{FieldsPut};
 
 // Writes what the fields add over the front of `out`, up to the first refusal; where it does not fit, something may be lost of `out`.
 fn put_fields(s: &[u8], own: &[u8], out: &mut [u8]) -> BlockReported
@@ -110,7 +46,7 @@ fn put_fields(s: &[u8], own: &[u8], out: &mut [u8]) -> BlockReported
                 end,
             } => {
                 count += 1;
-                to = put_field(
+                to = field_reports::put_field(
                     count,
                     own,
                     &s[start..name_end],
@@ -176,7 +112,7 @@ fn reports_spelled(s: &[u8], list: &[u8], out: &mut [u8]) -> BlockReported
     ensures { λ r. ⌜ r ≡ answerOf (reportFields (now (s .entry)) (ownOf (ownList (now (list .entry)) .items)) (length (now (out .entry)))) ⌝ }
     ensures { λ _. ⌜ now (out .exit) ≡ leaves (reportFields (now (s .entry)) (ownOf (ownList (now (list .entry)) .items)) (length (now (out .entry)))) (now (out .entry)) ⌝ }
 {
-    let mut own = [0u8; ownlist::SPELLED];
+    let mut own = spelled_room::spelled();
     let n = ownlist::spell_list(list, &mut own);
     reports_by(s, &own[..n], out)
 }

@@ -8,8 +8,8 @@ use lib.ListN.{length}
 use Rattle.lexis_rules.specs.Limits.{byteLimit}
 use Rattle.authserv_rules.specs.declared.Own.{Own}
 use Rattle.body.specs.Report.{report}
-use Rattle.body.proofs.Rooms.{text-size}
-use Rattle.body.proofs.Ways.{when-told}
+use Rattle.body_laws.proofs.Rooms.{text-size}
+use Rattle.body_laws.proofs.Ways.{when-told}
 use Rattle.reports_rules.specs.FieldLines.{fieldLine}
 use Rattle.reports_rules.specs.Reports.{bodyLines}
 

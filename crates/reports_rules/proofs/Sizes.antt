@@ -17,8 +17,8 @@ use Rattle.authserv_rules.specs.Identifier.{identifier}
 use Rattle.body.specs.Body.{Reading, unreadable, malformed, newer, noResult, results, reading}
 use Rattle.body.specs.Report.{line}
 use Rattle.body.specs.Told.{numberOf, textOf, countOf}
-use Rattle.body.proofs.Counts.{count-size}
-use Rattle.body.proofs.Rooms.{text-size}
+use Rattle.body_laws.proofs.Counts.{count-size}
+use Rattle.body_laws.proofs.Rooms.{text-size}
 use Rattle.reports_rules.specs.FieldLines.{wordOf, fieldLine}
 use Rattle.reports_rules.specs.Reports.{bodyLines, addition}
 

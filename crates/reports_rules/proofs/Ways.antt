@@ -11,9 +11,9 @@ use lib.ListN.{length, drop}
 use lib.Seq.{drop-append-seam}
 use Rattle.lexis_rules.specs.Limits.{byteLimit}
 use Rattle.block_rules.specs.Fields.{fields}
-use Rattle.block_rules.proofs.Fields.{fields-numbers}
+use Rattle.block_laws.proofs.Fields.{fields-numbers}
 use Rattle.authserv_rules.specs.OwnList.{ownList}
-use Rattle.authserv_rules.proofs.Entries.{list-five}
+use Rattle.authserv_laws.proofs.Entries.{list-five}
 use Rattle.reports_rules.specs.Reports.{Answer, fitted, orRefusal, reportFields, reports}
 use Rattle.reports_rules.specs.Answers.{answerOf, leaves}
 use Rattle.reports_rules.specs.Told.{blockText, Known}

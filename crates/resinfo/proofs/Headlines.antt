@@ -8,11 +8,11 @@ use lib.ListN.{drop}
 use Rattle.reading.specs.Places.{from}
 use Rattle.resinfo_rules.specs.Results.{methodspec, reason, property}
 use Rattle.resinfo.specs.declared.Step.the-variants as step
-use Rattle.resinfo.specs.Parts.{methodAt, methodGot, reasonAt, reasonGot, labelAt, labelGot, names}
+use Rattle.result_parts.specs.Parts.{methodAt, methodGot, reasonAt, reasonGot, labelAt, labelGot, names}
 use Rattle.resinfo.specs.Steps.{closes, stepAt, propertyGot}
-use Rattle.resinfo.proofs.Methods as methods
-use Rattle.resinfo.proofs.Reasons as reasons
-use Rattle.resinfo.proofs.Labels as labels
+use Rattle.result_parts.proofs.Methods as methods
+use Rattle.result_parts.proofs.Reasons as reasons
+use Rattle.result_parts.proofs.Labels as labels
 use Rattle.resinfo.proofs.Steps as steps
 
 -- `parts::method_at`: a method, its version and its result

@@ -1,8 +1,2 @@
-pub mod Marks
-pub mod Labels
-pub mod Reasons
-pub mod Methods
-pub mod PartExamples
-pub mod PartPlaces
 pub mod Steps
 pub mod Headlines

@@ -16,15 +16,15 @@ use Rattle.reading.proofs.Places.{goes-on, stops, gives}
 use Rattle.lexis_rules.specs.Words.{keywordText}
 use Rattle.resinfo.specs.declared.Step.{Step}
 use Rattle.resinfo.specs.declared.Step.the-variants as step
-use Rattle.resinfo.specs.declared.parts.Label.{Label}
-use Rattle.resinfo.specs.declared.parts.Label.the-variants as label
+use Rattle.result_parts.specs.declared.Label.{Label}
+use Rattle.result_parts.specs.declared.Label.the-variants as label
 use Rattle.values.specs.declared.Found.{Found}
 use Rattle.values.specs.declared.Found.the-variants as found
 use Rattle.resinfo_rules.specs.Results.{Property, property, propertyValue}
-use Rattle.resinfo.specs.Parts.{spaced, labelFrom, labelAt}
+use Rattle.result_parts.specs.Parts.{spaced, labelFrom, labelAt}
 use Rattle.values.specs.Values.{span, valueOf, valueAt, valueGot}
 use Rattle.resinfo.specs.Steps.{isEnd, closes, endOf, propertyOf, stepOf, stepFrom, stepAt, propertyGot}
-use Rattle.resinfo.proofs.Labels.{property-behind, property-not}
+use Rattle.result_parts.proofs.Labels.{property-behind, property-not}
 use Rattle.values.proofs.ValueGot.{value-got}
 
 -- ==== by the tests of the code

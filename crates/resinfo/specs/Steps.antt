@@ -11,12 +11,12 @@ use Rattle.lexis_rules.specs.Pieces.{space}
 use Rattle.lexis_rules.specs.Words.{keywordText}
 use Rattle.resinfo.specs.declared.Step.{Step}
 use Rattle.resinfo.specs.declared.Step.the-variants as step
-use Rattle.resinfo.specs.declared.parts.Label.{Label}
-use Rattle.resinfo.specs.declared.parts.Label.the-variants as label
+use Rattle.result_parts.specs.declared.Label.{Label}
+use Rattle.result_parts.specs.declared.Label.the-variants as label
 use Rattle.values.specs.declared.Found.{Found}
 use Rattle.values.specs.declared.Found.the-variants as found
 use Rattle.resinfo_rules.specs.Results.{Property}
-use Rattle.resinfo.specs.Parts.{spaced, labelFrom}
+use Rattle.result_parts.specs.Parts.{spaced, labelFrom}
 use Rattle.values.specs.Values.{span, valueOf, valueAt}
 
 -- ";" or the end comes next

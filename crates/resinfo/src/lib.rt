@@ -1,13 +1,11 @@
-// One result of a field body (RFC 8601: resinfo): its parts and steps, read at places. Its grammar is in resinfo_rules, property values in
-// values, the table in methods.
-use parts::Label;
+// One result of a field body (RFC 8601: resinfo): its steps, read at places. Its grammar is in resinfo_rules, its parts in
+// result_parts, property values in values, the table in methods.
+use result_parts::Label;
 use values::Found;
 use values::Value;
 ghost use mathlib.Core.Path.{_≡_};
 ghost use lib.ListN.{drop};
 ghost use Rattle.resinfo.specs.Steps.{isEnd, endOf, propertyOf, stepFrom};
-
-pub mod parts;
 
 // What stands behind a method, a reason or a property: a property, by the places of its names, its value and the place after it; the end of
 // the result, where ";" or the end of the body comes after the longest space; or neither, and the body is not well-formed (number 9).
@@ -62,7 +60,7 @@ fn property_of(a: usize, e: usize, b: usize, f: usize, found: Found) -> Step
 pub fn step_from(s: &[u8], at: usize, a: usize) -> Step
     ensures { λ r. ⌜ r ≡ stepFrom (now (s .entry)) at a ⌝ }
 {
-    match parts::label_from(s, at, a) {
+    match result_parts::label_from(s, at, a) {
         Label::Read {
             type_start,
             type_end,

@@ -1,4 +1,1 @@
-pub mod Spans
-pub mod Goes
-pub mod Sifting
 pub mod Ends

@@ -1,6 +1,1 @@
 pub mod Examples
-pub mod Laws
-pub mod Alike
-pub mod Headlines
-pub mod Ways
-pub mod ByFields

@@ -1,36 +1,32 @@
--- The parts of a tag as the code finds them: the name, the value by runs of plain bytes, the tag at a place tied to its parser, the value
--- without the space around it, and its chain value. The premises are the tests of the code in turn. Assumes nothing.
-use Prim.Native.Nat.{ℕ, zero, suc, _+_, _-_, _≤_, _<_, _^_, zero-le, suc-le-suc}
-use native.Mathlib.Nat.{not-suc-le-zero, le-of-suc-le-suc}
+-- The parts of a tag as the code finds them: the name, the value by runs of plain bytes, and the tag at a place
+-- tied to its parser. The premises are the tests of the code in turn. Assumes nothing.
+use Prim.Native.Nat.{ℕ, _+_, _≤_, _<_, zero-le}
 use native.Mathlib.Omega.{arith}
-use mathlib.Core.Path.{_≡_, refl, sym, ap, subst, _∙_}
-use mathlib.Core.Bool.{Bool, true, false, cond, _||_}
-use mathlib.Core.List.{List, [], _∷_}
+use mathlib.Core.Path.{_≡_, refl, sym, subst, _∙_}
+use mathlib.Core.Bool.{Bool, true, false, _||_}
+use mathlib.Core.List.{List, _∷_}
 use lib.Dec.{eqb, leb}
-use lib.ListN.{length, getD, take, drop, length-drop}
-use lib.Seq.{drop-cons, take-length}
-use mir.Syntax.{w64}
-use mir.Val as machine
+use lib.ListN.{length, getD, drop, length-drop}
+use lib.Seq.{drop-cons}
 use borrow.Author.Tests.{eq-eqb, ne-eqb, eqb-true, eqb-false, le-leb, lt-leb, leb-true, leb-false}
 use Rattle.sequences.proofs.Booleans.{and-none, or-none}
-use Rattle.reading.specs.Texts.{bytes, oneOf, same, starts, within}
+use Rattle.reading.specs.Texts.{starts, within}
 use Rattle.reading.specs.Readers.{run}
 use Rattle.reading.specs.Parsers.{Got, nothing, got, Parser, _>>=_, _>>_, give, end, byte, taken, text, either}
 use Rattle.reading.specs.Places.{from, Reaches}
 use Rattle.reading.proofs.Sequencing.{byte-is, byte-not, either-first, either-second}
-use Rattle.reading.proofs.Readers.{there-at, run-fits, many-fits}
-use Rattle.reading.proofs.Loops.{many-past-run, run-off, run-out}
+use Rattle.reading.proofs.Readers.{there-at, many-fits}
+use Rattle.reading.proofs.Loops.{many-past-run}
 use Rattle.reading.proofs.Places.{took, none-at, at-got, at-none, goes-on, stops, gives, end-at, end-not, byte-at, byte-none, text-at, text-none, taken-at, skipping-at}
 use Rattle.lexis_rules.specs.declared.Class.the-variants.{Keyword, Tag}
-use Rattle.lexis_rules.specs.Bytes.{letter, inClass, alike}
+use Rattle.lexis_rules.specs.Bytes.{letter, inClass}
 use Rattle.lexis_rules.specs.Pieces.{item, bareSpace}
-use Rattle.lexis_rules.proofs.Pieces.{item-fits}
-use Rattle.lexis.proofs.Loops.{items-on, items-off}
+use Rattle.lexis_laws.proofs.Pieces.{item-fits}
+use Rattle.items.proofs.Loops.{items-on, items-off}
 use Rattle.tags.specs.declared.Tag as found
 use Rattle.tags.specs.declared.Tag.the-variants.{Read, Missing}
 use Rattle.arc_rules.specs.Tags as tags
-use Rattle.arc_rules.specs.Tags.{skipBare, inTagName, tagName, tagValue, white, solid, trimmed, tag}
-use Rattle.arc_rules.specs.Sets.{chainValue}
+use Rattle.arc_rules.specs.Tags.{skipBare, inTagName, tagName, tagValue, trimmed, tag}
 use Rattle.tags.specs.Tags.{span, TagFound, TagPlaces, closedAt, valuedAt, namedAt, tagAt}
 
 -- ==== the name
@@ -135,7 +131,7 @@ module _ (s : List ℕ) (at a : ℕ) (q : a ≡ at + bareSpace (drop at s)) (e :
     tag-no-equals t = missing (named nothing (stops (byte 61) _ s b (byte-none 61 s b r h t)))
 
     module _ (t : r ≡ true) (v : ℕ) (i : v ≡ b + 1 + tagValue (drop (b + 1) s)) where
-      inside : b < length s
+      pub inside : b < length s
       inside = omega (arith, there-at (λ x. eqb x 61) refl s b 0 (sym h ∙ t))
 
       valued-inside : v ≤ length s
@@ -220,122 +216,3 @@ module _ (s : List ℕ) (at a : ℕ) (q : a ≡ at + bareSpace (drop at s)) (e :
 -- a tag at a place is what the parser of tags reads there, and its parts stand in order
 pub tag-found : (s : List ℕ) (at : ℕ) → TagFound s at (tagAt s at)
 tag-found s at = found-name s at _ refl _ refl _ refl
-
--- ==== space around a value
-
-module _ (b : ℕ) where
-  pub white-space : b ≡ 32 → true ≡ white b
-  unfolding white oneOf
-  white-space e = rw e
-
-  pub white-tab : b ≡ 9 → true ≡ white b
-  unfolding white oneOf
-  white-tab e = rw e
-
-  pub white-return : b ≡ 13 → true ≡ white b
-  unfolding white oneOf
-  white-return e = rw e
-
-  pub white-feed : (b ≡ 32 → ⊥) → (b ≡ 9 → ⊥) → (b ≡ 13 → ⊥) → eqb b 10 ≡ white b
-  unfolding white oneOf
-  white-feed n m k = rw (ne-eqb b 32 n, ne-eqb b 9 m, ne-eqb b 13 k) (sym (or-none (eqb b 10)))
-
-module _ (v : List ℕ) (i : ℕ) (w : Reaches (run white) v 0 i) where
-  pub white-off : i < length v → (r : Bool) → r ≡ white (getD v i 0) → r ≡ false → i ≡ run white v
-  white-off h r e q = omega (arith, run-off white v 0 i r w h e q)
-
-  pub white-out : length v ≤ i → i ≡ run white v
-  white-out h = omega (arith, run-out white v 0 i w h)
-
--- up to a byte that is space as far as up to the byte before it; up to another byte that far
-solid-white : (k : ℕ) (xs : List ℕ) → k < length xs → white (getD xs k 0) ≡ true → solid (take (suc k) xs) ≡ solid (take k xs)
-unfolding solid
-solid-white k [] h e = absurd (not-suc-le-zero h)
-solid-white zero (x ∷ xs) h e = rw e
-solid-white (suc k) (x ∷ xs) h e = let ih = solid-white k xs (le-of-suc-le-suc h) e in rw (solid, ih)
-
-solid-other : (k : ℕ) (xs : List ℕ) → k < length xs → white (getD xs k 0) ≡ false → solid (take (suc k) xs) ≡ suc k
-unfolding solid
-solid-other k [] h e = absurd (not-suc-le-zero h)
-solid-other zero (x ∷ xs) h e = rw e
-solid-other (suc k) (x ∷ xs) h e = let ih = solid-other k xs (le-of-suc-le-suc h) e in rw (solid, ih)
-
-pub solid-fits : (xs : List ℕ) → solid xs ≤ length xs
-unfolding solid
-solid-fits [] = zero-le
-solid-fits (x ∷ xs) = go (solid xs) refl (white x) (solid-fits xs)
-  where
-    last : (t : Bool) → cond t 0 1 ≤ suc (length xs)
-    last true = zero-le
-    last false = suc-le-suc zero-le
-
-    go : (n : ℕ) → solid xs ≡ n → (t : Bool) → solid xs ≤ length xs → solid (x ∷ xs) ≤ suc (length xs)
-    go zero e t ih = rw (solid, e) (last (white x))
-    go (suc n) e t ih = rw (solid, e) (omega arith)
-
--- the space behind e has been passed
-pub record Solid (v : List ℕ) (e : ℕ) : Type 0 where
-  pub inside : e ≤ length v
-  pub same : solid (take e v) ≡ solid v
-
-module _ (v : List ℕ) where
-  pub solid-start : Solid v (length v)
-  solid-start = record { inside = omega arith; same = ap solid (take-length v) }
-
-  module _ (e : ℕ) (w : Solid v e) where
-    pub solid-out : e ≤ 0 → e ≡ solid v
-    unfolding solid
-    solid-out h = let z : e ≡ 0 = omega arith in z ∙ (rw z at (w .same))
-
-    module _ (h : 0 < e) where
-      pub solid-last : e - 1 < length v
-      solid-last = omega (arith, w .inside)
-
-      up : suc (e - 1) ≡ e
-      up = omega arith
-
-      module _ (r : Bool) (q : r ≡ white (getD v (e - 1) 0)) where
-        pub solid-on : r ≡ true → Solid v (e - 1)
-        solid-on t = record { inside = omega (arith, w .inside); same = sym (solid-white (e - 1) v solid-last (sym q ∙ t)) ∙ (rw up (w .same)) }
-
-        pub solid-off : r ≡ false → e ≡ solid v
-        solid-off t = sym up ∙ (sym (solid-other (e - 1) v solid-last (sym q ∙ t)) ∙ (rw up (w .same)))
-
--- ==== the chain value
-
-module _ (v : List ℕ) (w : ℕ) (q : w ≡ run white v) where
-  pub white-inside : w ≤ length v
-  white-inside = rw q (run-fits white v)
-
-  module _ (e : ℕ) (p : e ≡ solid (span v w (length v))) where
-    rest : e ≡ solid (drop w v)
-    rest = rw (← length-drop w v, take-length (drop w v)) at p
-
-    pub solid-inside : w + e ≤ length v
-    solid-inside = omega (arith, white-inside, solid-fits (drop w v), length-drop w v, rest)
-
-    pub solid-machine : length v < 2 ^ 64 → machine.Fits w64 (w + e)
-    solid-machine l = omega (arith, solid-inside)
-
-    pub trimmed-is : (r : ℕ) → r ≡ chainValue (span v w (w + e)) → r ≡ chainValue (trimmed v)
-    unfolding trimmed
-    trimmed-is r h = let d : w + e - w ≡ solid (drop w v) = omega (arith, rest) in h ∙ ap chainValue (rw (d, q))
-
-module _ (t : List ℕ) (r : Bool) (e : r ≡ alike t (bytes "none")) where
-  pub chain-none : r ≡ true → 1 ≡ chainValue t
-  unfolding chainValue
-  chain-none u = rw (← e, u)
-
-  module _ (f : r ≡ false) (r′ : Bool) (e′ : r′ ≡ alike t (bytes "pass")) where
-    pub chain-pass : r′ ≡ true → 2 ≡ chainValue t
-    unfolding chainValue
-    chain-pass u = rw (← e, f, ← e′, u)
-
-    module _ (f′ : r′ ≡ false) (r″ : Bool) (e″ : r″ ≡ alike t (bytes "fail")) where
-      pub chain-fail : r″ ≡ true → 3 ≡ chainValue t
-      unfolding chainValue
-      chain-fail u = rw (← e, f, ← e′, f′, ← e″, u)
-
-      pub chain-other : r″ ≡ false → 0 ≡ chainValue t
-      unfolding chainValue
-      chain-other u = rw (← e, f, ← e′, f′, ← e″, u)

@@ -23,7 +23,7 @@ use Rattle.reading.proofs.Repeats.{list-none, end-none, list-more, end-more}
 use Rattle.lexis_rules.specs.Bytes.{letter}
 use Rattle.lexis_rules.specs.Pieces.{item, bareSpace}
 use Rattle.lexis_rules.specs.declared.Class.the-variants as class
-use Rattle.lexis_rules.proofs.Pieces.{item-fits, bare-space-fits}
+use Rattle.lexis_laws.proofs.Pieces.{item-fits, bare-space-fits}
 use Rattle.tags.specs.declared.Tag as told
 use Rattle.tags.specs.declared.Tag.the-variants as tagged
 use Rattle.tagtests.specs.declared.Collected.{Collected}

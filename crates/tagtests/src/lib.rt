@@ -11,7 +11,7 @@ pub fn cv_after(cv: u8, name: &[u8], value: &[u8]) -> u8
     ensures { λ r. ⌜ r ≡ cvAfter cv (now (name .entry)) (now (value .entry)) ⌝ }
 {
     if tagnames::is_named(name, 0, b"cv") {
-        return tags::chain_value_of(value);
+        return chain_values::chain_value_of(value);
     }
     cv
 }

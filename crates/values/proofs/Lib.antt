@@ -1,4 +1,3 @@
-pub mod DomainLabels
 pub mod ValueCases
 pub mod ValueGot
 pub mod ValueExamples

@@ -17,7 +17,7 @@ use Rattle.values.specs.declared.Value.the-variants.{Token, Quoted, Mail
 use Rattle.values.specs.declared.Found.{Found}
 use Rattle.values.specs.declared.Found.the-variants.{Read, Refused}
 use Rattle.resinfo_rules.specs.Results.{inLocalPart, singleDots, domain}
-use Rattle.resinfo_rules.proofs.Values.{local-past-token}
+use Rattle.resinfo_laws.proofs.Values.{local-past-token}
 use Rattle.values.specs.Values.{upTo, mailboxAt, atDomainAt, addressAt, quotedTo, quotedAt, tokenAt, valueFrom, valueAt}
 
 -- ==== from a place up to another

@@ -18,7 +18,7 @@ use Rattle.reading.proofs.Readers.{run-fits}
 use Rattle.reading.proofs.Places.{Took, took, none-at, goes-on, stops, gives, passes, fails, byte-at, text-at, text-none, taken-at, this-way, that-way}
 use Rattle.lexis_rules.specs.Pieces.{token, quoted}
 use Rattle.lexis_rules.specs.Words.{quotedText}
-use Rattle.lexis_rules.proofs.Values.{quoted-text}
+use Rattle.lexis_laws.proofs.Values.{quoted-text}
 use Rattle.values.specs.declared.Value as place
 use Rattle.values.specs.declared.Value.the-variants as at
 use Rattle.values.specs.declared.Found.the-variants.{Read, Refused}

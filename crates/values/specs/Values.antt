@@ -2,21 +2,20 @@
 -- are definitions.
 use Prim.Native.Char.{code}
 use Prim.Native.Nat.{ℕ, zero, suc, _+_, _-_}
-use mathlib.Core.Bool.{Bool, true, false, not, cond, _&&_, _||_}
+use mathlib.Core.Bool.{Bool, true, false}
 use mathlib.Core.List.{List, _∷_, _++_}
-use lib.Dec.{eqb, ltb}
+use lib.Dec.{eqb}
 use lib.ListN.{getD, take, drop}
 use Rattle.reading.specs.Readers.{run}
 use Rattle.reading.specs.Parsers.{Got, nothing, got}
 use Rattle.lexis_rules.specs.Pieces.{token, quoted}
 use Rattle.lexis_rules.specs.Words.{quotedText}
-use Rattle.classes.specs.Internal.{bitsOf}
 use Rattle.values.specs.declared.Value as place
-use Rattle.values.specs.declared.Value.the-variants as at
+use Rattle.values.specs.declared.Value.the-variants as spans
 use Rattle.values.specs.declared.Found.{Found}
 use Rattle.values.specs.declared.Found.the-variants.{Read, Refused}
 use Rattle.resinfo_rules.specs.Results as results
-use Rattle.resinfo_rules.specs.Results.{Value, alphanumeric, inLocalPart, singleDots, domain}
+use Rattle.resinfo_rules.specs.Results.{Value, inLocalPart, singleDots, domain}
 
 -- ==== where a property value stands
 
@@ -27,11 +26,11 @@ upTo a (suc n) v = Read (v (a + suc n)) (a + suc n)
 
 -- a local part from a place up to its "@", then a domain
 abbrev pub mailboxAt : List ℕ → ℕ → ℕ → Bool → Found
-mailboxAt s start sign q = upTo (sign + 1) (domain (drop (sign + 1) s)) (λ e. at.Mailbox start sign e q)
+mailboxAt s start sign q = upTo (sign + 1) (domain (drop (sign + 1) s)) (λ e. spans.Mailbox start sign e q)
 
 -- "@" at a place, then a domain, and no local part
 abbrev pub atDomainAt : List ℕ → ℕ → Found
-atDomainAt s sign = upTo (sign + 1) (domain (drop (sign + 1) s)) (λ e. at.AtDomain sign e)
+atDomainAt s sign = upTo (sign + 1) (domain (drop (sign + 1) s)) (λ e. spans.AtDomain sign e)
 
 -- a run of bytes of a local part with "@" behind it: the run may have no leading, trailing or doubled dot, and an empty run makes an
 -- at-domain
@@ -44,13 +43,13 @@ addressAt s start sign =
 
 -- a quoted string up to a place, or a mailbox where "@" is directly behind it
 unfoldable pub quotedTo : List ℕ → ℕ → ℕ → Found
-quotedTo s start e = elim (eqb (getD (drop e s) 0 0) (code "@")) [ true ↦ mailboxAt s start e true | false ↦ Read (at.Quoted start e) e ]
+quotedTo s start e = elim (eqb (getD (drop e s) 0 0) (code "@")) [ true ↦ mailboxAt s start e true | false ↦ Read (spans.Quoted start e) e ]
 
 unfoldable pub quotedAt : List ℕ → ℕ → Found
 quotedAt s start = elim (quoted (drop start s)) [ zero ↦ Refused | suc n ↦ quotedTo s start (start + suc n) ]
 
 abbrev pub tokenAt : List ℕ → ℕ → Found
-tokenAt s start = upTo start (token (drop start s)) (λ e. at.Token start e)
+tokenAt s start = upTo start (token (drop start s)) (λ e. spans.Token start e)
 
 -- where the bytes of a local part are followed by "@", an address; else what the first byte says
 unfoldable pub valueFrom : List ℕ → ℕ → ℕ → Found
@@ -76,26 +75,12 @@ localText s a e false = span s a e
 
 -- 01, The report: a mailbox's text is the local part's text, "@", domain; an at-domain's is "@", domain
 abbrev pub valueOf : List ℕ → place.Value → Value
-valueOf s (at.Token a e) = record { kind = results.Token; text = span s a e }
-valueOf s (at.Quoted a e) = record { kind = results.Quoted; text = quotedText (drop a s) }
-valueOf s (at.Mailbox a m e q) = record { kind = results.Mailbox; text = localText s a m q ++ (code "@" ∷ span s (m + 1) e) }
-valueOf s (at.AtDomain a e) = record { kind = results.AtDomain; text = code "@" ∷ span s (a + 1) e }
+valueOf s (spans.Token a e) = record { kind = results.Token; text = span s a e }
+valueOf s (spans.Quoted a e) = record { kind = results.Quoted; text = quotedText (drop a s) }
+valueOf s (spans.Mailbox a m e q) = record { kind = results.Mailbox; text = localText s a m q ++ (code "@" ∷ span s (m + 1) e) }
+valueOf s (spans.AtDomain a e) = record { kind = results.AtDomain; text = code "@" ∷ span s (a + 1) e }
 
 -- a property value that was found, and the place after it
 abbrev pub valueGot : List ℕ → Found → Got Value
 valueGot s (Read v e) = got (valueOf s v) e
 valueGot s Refused = nothing
-
--- ==== what private functions say of their answers: no public contract cites these
-
--- how the code keeps the bytes of local parts: a binary digit for each, the lowest first, 64 bytes to a word
-abbrev pub localWord : ℕ → ℕ
-localWord b = cond (ltb b 64) (bitsOf inLocalPart 0 64) (cond (ltb b 128) (bitsOf inLocalPart 64 64) 0)
-
--- a byte may follow another one in labels parted by dots
-unfoldable pub goesOn : ℕ → ℕ → Bool
-goesOn b x = alphanumeric x || eqb x (code ".") && alphanumeric b || eqb x (code "-") && not (eqb b (code "."))
-
--- where a domain that started at a place ends: at e, if a dot was passed and the last byte may end a label; else there is none
-abbrev pub closedAt : Bool → ℕ → ℕ → ℕ → ℕ
-closedAt parted last at e = cond (parted && alphanumeric last) e at

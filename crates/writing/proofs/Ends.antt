@@ -15,7 +15,7 @@ use Rattle.lexis_rules.specs.Limits.{byteLimit}
 use Rattle.compose.specs.Entries.{Entry}
 use Rattle.compose.specs.Bodies.{bodyOf}
 use Rattle.compose.specs.Compose.{front, entries, refusal, sized, answer, compose}
-use Rattle.compose.proofs.Runs.{Walk, accepted, refused, walk}
+use Rattle.compose_laws.proofs.Runs.{Walk, accepted, refused, walk}
 use Rattle.writing.specs.declared.Lines.{Lines}
 use Rattle.compose.specs.declared.Written.{Written}
 use Rattle.compose.specs.Answers.{answerOf, leaves}

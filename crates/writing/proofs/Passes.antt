@@ -22,8 +22,8 @@ use Rattle.body.specs.Report.{line, idLine, noneLine, methodLine, reasonLine, p
 use Rattle.compose.specs.Entries.{Entry, identified, unstated, judged, reasoned, shown, lineOf, entry}
 use Rattle.compose.specs.Bodies.{piece, bodyOf}
 use Rattle.compose.specs.Compose.{State, front, goes, final, Step, steps, step, walked, entries}
-use Rattle.compose.proofs.Lines.{entry-finds}
-use Rattle.compose.proofs.Runs.{walked-stops, walked-goes, walked-last, walked-early}
+use Rattle.compose_laws.proofs.Lines.{entry-finds}
+use Rattle.compose_laws.proofs.Runs.{walked-stops, walked-goes, walked-last, walked-early}
 use Rattle.pieces.specs.declared.Piece.{Piece}
 use Rattle.writing.specs.declared.Lines.{Lines}
 use Rattle.pieces.specs.Internal.{pieceAt, bytesAt}

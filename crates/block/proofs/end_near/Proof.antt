@@ -6,7 +6,7 @@ use mathlib.Core.Path.{refl}
 use borrow.Author.Needs.{needs}
 use lib.ListN.{length}
 use Rattle.block.specs.Wide.{Leads}
-use Rattle.block.proofs.Lines.{line-room}
+use Rattle.block_lines.proofs.Lines.{line-room}
 use Rattle.block.proofs.Wide.{leads-here, near-high, near-low, near-fold, near-end, near-less}
 use Rattle.block.proofs.end_near.Statement.{statement}
 use Rattle.block.proofs.end_near.Tie as tie

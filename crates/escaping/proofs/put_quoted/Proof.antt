@@ -8,7 +8,7 @@ use Rattle.reading.proofs.Loops.{turn-fits, turn-less}
 use Rattle.lexis_rules.specs.declared.Class.the-variants.{Quoted}
 use Rattle.lexis_rules.specs.Pieces.{item}
 use Rattle.lexis_rules.specs.Words.{quotedText}
-use Rattle.lexis_rules.proofs.Pieces.{item-fits}
+use Rattle.lexis_laws.proofs.Pieces.{item-fits}
 use Rattle.escaping.proofs.Escapes.{Quoting, verbatim-after, quoted-past, quoting-start, quoting-done, quoting-more, quoting-run, quoting-inside, quoting-less}
 use Rattle.escaping.proofs.put_quoted.Statement.{statement}
 use Rattle.escaping.proofs.put_quoted.Tie as tie

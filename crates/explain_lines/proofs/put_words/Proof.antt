@@ -14,20 +14,14 @@ put-field-requires c κs = search needs
 enum-told-2 : tie.Need-enum-told-2
 enum-told-2 c = search needs
 
-slice-aggregate-put-labelled : tie.Need-slice-aggregate-put-labelled
-slice-aggregate-put-labelled c = search needs
-
-put-labelled-requires : tie.Need-put-labelled-requires
-put-labelled-requires c κs = search needs
+put-named-requires : tie.Need-put-named-requires
+put-named-requires c κs = search needs
 
 enum-told-3 : tie.Need-enum-told-3
 enum-told-3 c = search needs
 
-slice-aggregate-put-labelled-2 : tie.Need-slice-aggregate-put-labelled-2
-slice-aggregate-put-labelled-2 c = search needs
-
-put-labelled-requires-2 : tie.Need-put-labelled-requires-2
-put-labelled-requires-2 c κs = search needs
+put-named-requires-2 : tie.Need-put-named-requires-2
+put-named-requires-2 c κs = search needs
 
 enum-told-4 : tie.Need-enum-told-4
 enum-told-4 c = search needs
@@ -47,11 +41,8 @@ put-method-requires c κs = search needs
 enum-told-6 : tie.Need-enum-told-6
 enum-told-6 c = search needs
 
-slice-aggregate-put-labelled-3 : tie.Need-slice-aggregate-put-labelled-3
-slice-aggregate-put-labelled-3 c = search needs
-
-put-labelled-requires-3 : tie.Need-put-labelled-requires-3
-put-labelled-requires-3 c κs = search needs
+put-named-requires-3 : tie.Need-put-named-requires-3
+put-named-requires-3 c κs = search needs
 
 enum-told-7 : tie.Need-enum-told-7
 enum-told-7 c = search needs
@@ -72,13 +63,13 @@ same-length-2 : tie.Need-same-length-2
 same-length-2 c = search needs
 
 returns-2 : tie.Need-returns-2
-returns-2 c = identifier-words _ _ _ _ _ _ (c .before .before .before .before .before .enum-told2 .given .1) (c .before .before .put-labelled .ensures)
+returns-2 c = identifier-words _ _ _ _ _ _ (c .before .before .before .before .enum-told2 .given .1) (c .before .before .put-named .ensures)
 
 same-length-3 : tie.Need-same-length-3
 same-length-3 c = search needs
 
 returns-3 : tie.Need-returns-3
-returns-3 c = version-words _ _ _ _ _ _ (c .before .before .before .before .before .enum-told3 .given .1) (c .before .before .put-labelled2 .ensures)
+returns-3 c = version-words _ _ _ _ _ _ (c .before .before .before .before .enum-told3 .given .1) (c .before .before .put-named2 .ensures)
 
 same-length-4 : tie.Need-same-length-4
 same-length-4 c = search needs
@@ -96,7 +87,7 @@ same-length-6 : tie.Need-same-length-6
 same-length-6 c = search needs
 
 returns-6 : tie.Need-returns-6
-returns-6 c = reason-words _ _ _ _ _ _ (c .before .before .before .before .before .enum-told6 .given .1) (c .before .before .put-labelled3 .ensures)
+returns-6 c = reason-words _ _ _ _ _ _ (c .before .before .before .before .enum-told6 .given .1) (c .before .before .put-named3 .ensures)
 
 same-length-7 : tie.Need-same-length-7
 same-length-7 c = search needs
@@ -114,19 +105,16 @@ put-words-spec =
     enum-told
     put-field-requires
     enum-told-2
-    slice-aggregate-put-labelled
-    put-labelled-requires
+    put-named-requires
     enum-told-3
-    slice-aggregate-put-labelled-2
-    put-labelled-requires-2
+    put-named-requires-2
     enum-told-4
     slice-aggregate-put-part
     put-part-requires
     enum-told-5
     put-method-requires
     enum-told-6
-    slice-aggregate-put-labelled-3
-    put-labelled-requires-3
+    put-named-requires-3
     enum-told-7
     put-property-requires
     enum-told-8

@@ -8,7 +8,8 @@ use Rattle.reading.specs.Places.{Reaches}
 use Rattle.reading.proofs.Loops.{reaches-start, there-fits}
 use Rattle.lexis_rules.specs.declared.Class.the-variants.{Comment}
 use Rattle.lexis_rules.specs.Pieces.{content}
-use Rattle.lexis.proofs.Loops.{no-level, comment-opens-not, comment-closes, comment-closes-not, comment-no-open, at-comment, past-comment, past-comment-less, at-item, past-item, past-item-less, item-turn}
+use Rattle.lexis.proofs.Loops.{no-level, comment-opens-not, comment-closes, comment-closes-not, comment-no-open, at-comment, past-comment, past-comment-less, at-item, past-item, past-item-less}
+use Rattle.items.proofs.Loops.{item-turn}
 use Prim.Native.Nat.{ℕ, _<_}
 use borrow.Fn.Kinds.{In}
 use borrow.Fn.PlainCycle.{Measures, is, falls, and}
@@ -18,7 +19,7 @@ use Rattle.lexis.proofs.+comment_from+content_from.Lts-comment_from as 
 use Rattle.lexis.proofs.content_from.Reads as content-from
 use Rattle.lexis.proofs.content_from.Kinds as content-from-kinds
 use Rattle.lexis.proofs.+comment_from+content_from.Lts-content_from as content-from-lts
-use Rattle.lexis.proofs.item_at.Reads as item-at-reads
+use Rattle.items.proofs.item_at.Reads as item-at-reads
 use Rattle.lexis.proofs.plain_end.Reads as plain-end-reads
 use Rattle.reading.proofs.is_at.Reads as is-at-reads
 use Rattle.lexis.proofs.+comment_from+content_from.{statement}

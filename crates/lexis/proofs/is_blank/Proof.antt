@@ -1,5 +1,5 @@
 -- `lexis::is_blank` meets its contract: each test is one of the definition. Assumes nothing.
-use Rattle.lexis_rules.proofs.Bytes.{blank-space, blank-tab}
+use Rattle.lexis_laws.proofs.Bytes.{blank-space, blank-tab}
 use Rattle.lexis.proofs.is_blank.Statement.{statement}
 use Rattle.lexis.proofs.is_blank.Tie as tie
 

@@ -1,5 +1,5 @@
 -- `lexis::is_stop` meets its contract: a byte that no test stops stands in a run of plain bytes. Assumes nothing.
-use Rattle.lexis_rules.proofs.Bytes.{comment-unstopped}
+use Rattle.lexis_laws.proofs.Bytes.{comment-unstopped}
 use Rattle.lexis.proofs.is_stop.Statement.{statement}
 use Rattle.lexis.proofs.is_stop.Tie as tie
 

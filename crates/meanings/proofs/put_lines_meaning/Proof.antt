@@ -1,58 +1,30 @@
--- `meanings::put_lines_meaning` meets its contract: each test in turn is a case of the definition. Assumes nothing.
-use Rattle.meanings.proofs.Meanings.{put-eleven, put-lines-one, put-lines-six}
+-- `meanings::put_lines_meaning` meets its contract: the words are a phrase of the text. Assumes nothing.
+use Rattle.meanings.proofs.Meanings.{lines-put}
 use borrow.Author.Needs.{needs}
 use Rattle.meanings.proofs.put_lines_meaning.Statement.{statement}
 use Rattle.meanings.proofs.put_lines_meaning.Tie as tie
 
-slice-aggregate-put-part : tie.Need-slice-aggregate-put-part
-slice-aggregate-put-part c = search needs
+slice-aggregate-put-phrase : tie.Need-slice-aggregate-put-phrase
+slice-aggregate-put-phrase c = search needs
 
-put-part-requires : tie.Need-put-part-requires
-put-part-requires c κs = search needs
+lines-place-requires : tie.Need-lines-place-requires
+lines-place-requires c κs = search needs
+
+put-phrase-requires : tie.Need-put-phrase-requires
+put-phrase-requires c κs = search needs
 
 same-length : tie.Need-same-length
 same-length c = search needs
 
 returns : tie.Need-returns
-returns c = search put-eleven
-
-slice-aggregate-put-part-2 : tie.Need-slice-aggregate-put-part-2
-slice-aggregate-put-part-2 c = search needs
-
-put-part-requires-2 : tie.Need-put-part-requires-2
-put-part-requires-2 c κs = search needs
-
-same-length-2 : tie.Need-same-length-2
-same-length-2 c = search needs
-
-returns-2 : tie.Need-returns-2
-returns-2 c = search put-lines-one
-
-slice-aggregate-put-part-3 : tie.Need-slice-aggregate-put-part-3
-slice-aggregate-put-part-3 c = search needs
-
-put-part-requires-3 : tie.Need-put-part-requires-3
-put-part-requires-3 c κs = search needs
-
-same-length-3 : tie.Need-same-length-3
-same-length-3 c = search needs
-
-returns-3 : tie.Need-returns-3
-returns-3 c = search put-lines-six
+returns c = search lines-put
 
 pub put-lines-meaning-spec : {M : Type 1} → statement M
 put-lines-meaning-spec =
     tie.close
     (tie.spec
-    slice-aggregate-put-part
-    put-part-requires
+    slice-aggregate-put-phrase
+    lines-place-requires
+    put-phrase-requires
     same-length
-    returns
-    slice-aggregate-put-part-2
-    put-part-requires-2
-    same-length-2
-    returns-2
-    slice-aggregate-put-part-3
-    put-part-requires-3
-    same-length-3
-    returns-3)
+    returns)

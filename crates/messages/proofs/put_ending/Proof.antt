@@ -1,4 +1,6 @@
 -- `messages::put_ending` meets its contract: each ending has its line. Assumes nothing.
+use Rattle.reading.specs.Readers.{run}
+use Rattle.phrases.specs.Phrases.{start, phrase}
 use Rattle.messages_rules.specs.Messages.{endingLine}
 use Rattle.messages.proofs.Putting.{ending-put}
 use borrow.Author.Needs.{needs}
@@ -8,83 +10,56 @@ use Rattle.messages.proofs.put_ending.Tie as tie
 enum-told : tie.Need-enum-told
 enum-told c = search needs
 
-slice-aggregate-put-part : tie.Need-slice-aggregate-put-part
-slice-aggregate-put-part c = search needs
-
-put-part-requires : tie.Need-put-part-requires
-put-part-requires c κs = search needs
+put-told-requires : tie.Need-put-told-requires
+put-told-requires c κs = search needs
 
 enum-told-2 : tie.Need-enum-told-2
 enum-told-2 c = search needs
 
-slice-aggregate-put-part-2 : tie.Need-slice-aggregate-put-part-2
-slice-aggregate-put-part-2 c = search needs
-
-put-part-requires-2 : tie.Need-put-part-requires-2
-put-part-requires-2 c κs = search needs
+put-told-requires-2 : tie.Need-put-told-requires-2
+put-told-requires-2 c κs = search needs
 
 enum-told-3 : tie.Need-enum-told-3
 enum-told-3 c = search needs
 
-slice-aggregate-put-part-3 : tie.Need-slice-aggregate-put-part-3
-slice-aggregate-put-part-3 c = search needs
-
-put-part-requires-3 : tie.Need-put-part-requires-3
-put-part-requires-3 c κs = search needs
+put-told-requires-3 : tie.Need-put-told-requires-3
+put-told-requires-3 c κs = search needs
 
 enum-told-4 : tie.Need-enum-told-4
 enum-told-4 c = search needs
 
-slice-aggregate-put-part-4 : tie.Need-slice-aggregate-put-part-4
-slice-aggregate-put-part-4 c = search needs
-
-put-part-requires-4 : tie.Need-put-part-requires-4
-put-part-requires-4 c κs = search needs
+put-told-requires-4 : tie.Need-put-told-requires-4
+put-told-requires-4 c κs = search needs
 
 enum-told-5 : tie.Need-enum-told-5
 enum-told-5 c = search needs
 
-slice-aggregate-put-part-5 : tie.Need-slice-aggregate-put-part-5
-slice-aggregate-put-part-5 c = search needs
-
-put-part-requires-5 : tie.Need-put-part-requires-5
-put-part-requires-5 c κs = search needs
+put-told-requires-5 : tie.Need-put-told-requires-5
+put-told-requires-5 c κs = search needs
 
 enum-told-6 : tie.Need-enum-told-6
 enum-told-6 c = search needs
 
-slice-aggregate-put-part-6 : tie.Need-slice-aggregate-put-part-6
-slice-aggregate-put-part-6 c = search needs
-
-put-part-requires-6 : tie.Need-put-part-requires-6
-put-part-requires-6 c κs = search needs
+put-told-requires-6 : tie.Need-put-told-requires-6
+put-told-requires-6 c κs = search needs
 
 enum-told-7 : tie.Need-enum-told-7
 enum-told-7 c = search needs
 
-slice-aggregate-put-part-7 : tie.Need-slice-aggregate-put-part-7
-slice-aggregate-put-part-7 c = search needs
-
-put-part-requires-7 : tie.Need-put-part-requires-7
-put-part-requires-7 c κs = search needs
+put-told-requires-7 : tie.Need-put-told-requires-7
+put-told-requires-7 c κs = search needs
 
 enum-told-8 : tie.Need-enum-told-8
 enum-told-8 c = search needs
 
-slice-aggregate-put-part-8 : tie.Need-slice-aggregate-put-part-8
-slice-aggregate-put-part-8 c = search needs
-
-put-part-requires-8 : tie.Need-put-part-requires-8
-put-part-requires-8 c κs = search needs
+put-told-requires-8 : tie.Need-put-told-requires-8
+put-told-requires-8 c κs = search needs
 
 enum-told-9 : tie.Need-enum-told-9
 enum-told-9 c = search needs
 
-slice-aggregate-put-part-9 : tie.Need-slice-aggregate-put-part-9
-slice-aggregate-put-part-9 c = search needs
-
-put-part-requires-9 : tie.Need-put-part-requires-9
-put-part-requires-9 c κs = search needs
+put-told-requires-9 : tie.Need-put-told-requires-9
+put-told-requires-9 c κs = search needs
 
 enum-known-ending : tie.Need-enum-known-ending
 enum-known-ending c = search needs
@@ -102,64 +77,64 @@ same-length : tie.Need-same-length
 same-length c = search needs
 
 returns : tie.Need-returns
-unfolding endingLine
-returns c = ending-put _ _ (c .before .before .before .before .before .enum-told .given .1) (c .before .before .before .before .before .before .before .before .before .args .list .now) _ _ _ _ (c .before .before .put-part .ensures)
+unfolding endingLine phrase start run
+returns c = ending-put _ _ (c .before .before .before .before .enum-told .given .1) (c .before .before .before .before .before .before .before .before .args .list .now) _ _ _ _ (c .before .before .put-told .ensures)
 
 same-length-2 : tie.Need-same-length-2
 same-length-2 c = search needs
 
 returns-2 : tie.Need-returns-2
-unfolding endingLine
-returns-2 c = ending-put _ _ (c .before .before .before .before .before .enum-told2 .given .1) (c .before .before .before .before .before .before .before .before .before .args .list .now) _ _ _ _ (c .before .before .put-part2 .ensures)
+unfolding endingLine phrase start run
+returns-2 c = ending-put _ _ (c .before .before .before .before .enum-told2 .given .1) (c .before .before .before .before .before .before .before .before .args .list .now) _ _ _ _ (c .before .before .put-told2 .ensures)
 
 same-length-3 : tie.Need-same-length-3
 same-length-3 c = search needs
 
 returns-3 : tie.Need-returns-3
-unfolding endingLine
-returns-3 c = ending-put _ _ (c .before .before .before .before .before .enum-told3 .given .1) (c .before .before .before .before .before .before .before .before .before .args .list .now) _ _ _ _ (c .before .before .put-part3 .ensures)
+unfolding endingLine phrase start run
+returns-3 c = ending-put _ _ (c .before .before .before .before .enum-told3 .given .1) (c .before .before .before .before .before .before .before .before .args .list .now) _ _ _ _ (c .before .before .put-told3 .ensures)
 
 same-length-4 : tie.Need-same-length-4
 same-length-4 c = search needs
 
 returns-4 : tie.Need-returns-4
-unfolding endingLine
-returns-4 c = ending-put _ _ (c .before .before .before .before .before .enum-told4 .given .1) (c .before .before .before .before .before .before .before .before .before .args .list .now) _ _ _ _ (c .before .before .put-part4 .ensures)
+unfolding endingLine phrase start run
+returns-4 c = ending-put _ _ (c .before .before .before .before .enum-told4 .given .1) (c .before .before .before .before .before .before .before .before .args .list .now) _ _ _ _ (c .before .before .put-told4 .ensures)
 
 same-length-5 : tie.Need-same-length-5
 same-length-5 c = search needs
 
 returns-5 : tie.Need-returns-5
-unfolding endingLine
-returns-5 c = ending-put _ _ (c .before .before .before .before .before .enum-told5 .given .1) (c .before .before .before .before .before .before .before .before .before .args .list .now) _ _ _ _ (c .before .before .put-part5 .ensures)
+unfolding endingLine phrase start run
+returns-5 c = ending-put _ _ (c .before .before .before .before .enum-told5 .given .1) (c .before .before .before .before .before .before .before .before .args .list .now) _ _ _ _ (c .before .before .put-told5 .ensures)
 
 same-length-6 : tie.Need-same-length-6
 same-length-6 c = search needs
 
 returns-6 : tie.Need-returns-6
-unfolding endingLine
-returns-6 c = ending-put _ _ (c .before .before .before .before .before .enum-told6 .given .1) (c .before .before .before .before .before .before .before .before .before .args .list .now) _ _ _ _ (c .before .before .put-part6 .ensures)
+unfolding endingLine phrase start run
+returns-6 c = ending-put _ _ (c .before .before .before .before .enum-told6 .given .1) (c .before .before .before .before .before .before .before .before .args .list .now) _ _ _ _ (c .before .before .put-told6 .ensures)
 
 same-length-7 : tie.Need-same-length-7
 same-length-7 c = search needs
 
 returns-7 : tie.Need-returns-7
-unfolding endingLine
-returns-7 c = ending-put _ _ (c .before .before .before .before .before .enum-told7 .given .1) (c .before .before .before .before .before .before .before .before .before .args .list .now) _ _ _ _ (c .before .before .put-part7 .ensures)
+unfolding endingLine phrase start run
+returns-7 c = ending-put _ _ (c .before .before .before .before .enum-told7 .given .1) (c .before .before .before .before .before .before .before .before .args .list .now) _ _ _ _ (c .before .before .put-told7 .ensures)
 
 same-length-8 : tie.Need-same-length-8
 same-length-8 c = search needs
 
 returns-8 : tie.Need-returns-8
-unfolding endingLine
-returns-8 c = ending-put _ _ (c .before .before .before .before .before .enum-told8 .given .1) (c .before .before .before .before .before .before .before .before .before .args .list .now) _ _ _ _ (c .before .before .put-part8 .ensures)
+unfolding endingLine phrase start run
+returns-8 c = ending-put _ _ (c .before .before .before .before .enum-told8 .given .1) (c .before .before .before .before .before .before .before .before .args .list .now) _ _ _ _ (c .before .before .put-told8 .ensures)
 
 same-length-9 : tie.Need-same-length-9
 same-length-9 c = search needs
 
 returns-9 : tie.Need-returns-9
-unfolding endingLine
-returns-9 c = ending-put _ _ (c .before .before .before .before .before .enum-told9 .given .1) (c .before .before .before .before .before .before .before .before .before .args .list .now) _ _ _ _ (c .before .before .put-part9 .ensures)
+unfolding endingLine phrase start run
+returns-9 c = ending-put _ _ (c .before .before .before .before .enum-told9 .given .1) (c .before .before .before .before .before .before .before .before .args .list .now) _ _ _ _ (c .before .before .put-told9 .ensures)
 
 same-length-10 : tie.Need-same-length-10
 same-length-10 c = search needs
@@ -180,32 +155,23 @@ put-ending-spec =
     tie.close
     (tie.spec
     enum-told
-    slice-aggregate-put-part
-    put-part-requires
+    put-told-requires
     enum-told-2
-    slice-aggregate-put-part-2
-    put-part-requires-2
+    put-told-requires-2
     enum-told-3
-    slice-aggregate-put-part-3
-    put-part-requires-3
+    put-told-requires-3
     enum-told-4
-    slice-aggregate-put-part-4
-    put-part-requires-4
+    put-told-requires-4
     enum-told-5
-    slice-aggregate-put-part-5
-    put-part-requires-5
+    put-told-requires-5
     enum-told-6
-    slice-aggregate-put-part-6
-    put-part-requires-6
+    put-told-requires-6
     enum-told-7
-    slice-aggregate-put-part-7
-    put-part-requires-7
+    put-told-requires-7
     enum-told-8
-    slice-aggregate-put-part-8
-    put-part-requires-8
+    put-told-requires-8
     enum-told-9
-    slice-aggregate-put-part-9
-    put-part-requires-9
+    put-told-requires-9
     enum-known-ending
     put-refusal-requires
     enum-known-ending-2

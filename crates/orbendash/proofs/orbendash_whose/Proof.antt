@@ -1,5 +1,5 @@
 -- `orbendash::orbendash_whose` meets its contract: one law for each way out. Assumes nothing.
-use mathlib.Core.Path.{sym, refl, _∙_}
+use mathlib.Core.Path.{sym, _∙_}
 use borrow.Author.Needs.{needs}
 use Rattle.orbendash.proofs.Owners.{good-zero, answer-1, answer-5, answer-0}
 use Rattle.orbendash.proofs.orbendash_whose.Statement.{statement}
@@ -35,13 +35,13 @@ enum-told c = search needs
 owner-of-requires : tie.Need-owner-of-requires
 owner-of-requires c κs = good-zero _ (sym (c .enum-told .given .1) ∙ c .before .before .check-list .ensures)
 
-owner-code-requires : tie.Need-owner-code-requires
-owner-code-requires c κs = search needs
+whose-face-requires : tie.Need-whose-face-requires
+whose-face-requires c κs = search needs
 
 returns-3 : tie.Need-returns-3
 returns-3 c =
     answer-0 (c .before .before .before .before .before .before .before .before .before .args .list .now) (c .before .before .before .before .before .before .before .before .before .args .body .now) _ _ (c .before .before .before .before .before .before .too-long .ensures) (c .before .before .before .before .before .if1 .left)
-    (sym (c .before .before .enum-told .given .1) ∙ c .before .before .before .before .check-list .ensures) _ (c .before .owner-of .ensures) _ (c .owner-code .ensures) refl
+    (sym (c .before .before .enum-told .given .1) ∙ c .before .before .before .before .check-list .ensures) _ (c .before .owner-of .ensures) (c .whose-face .ensures)
 
 pub orbendash-whose-spec : {M : Type 1} → statement M
 orbendash-whose-spec =
@@ -56,5 +56,5 @@ orbendash-whose-spec =
     returns-2
     enum-told
     owner-of-requires
-    owner-code-requires
+    whose-face-requires
     returns-3)

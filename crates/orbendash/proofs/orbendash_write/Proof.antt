@@ -1,11 +1,14 @@
 -- `orbendash::orbendash_write` meets its contract: the answer is that of `writing::write`, field by field. Assumes nothing.
-use Rattle.orbendash.proofs.Returned.{write-faced}
+use Rattle.faces.proofs.Returned.{write-faced}
 use borrow.Author.Needs.{needs}
 use Rattle.orbendash.proofs.orbendash_write.Statement.{statement}
 use Rattle.orbendash.proofs.orbendash_write.Tie as tie
 
 write-requires : tie.Need-write-requires
 write-requires c κs = search needs
+
+write-face-requires : tie.Need-write-face-requires
+write-face-requires c κs = search needs
 
 same-length : tie.Need-same-length
 same-length c = search needs
@@ -14,4 +17,4 @@ returns : tie.Need-returns
 returns c = (search write-faced, search needs)
 
 pub orbendash-write-spec : {M : Type 1} → statement M
-orbendash-write-spec = tie.close (tie.spec write-requires same-length returns)
+orbendash-write-spec = tie.close (tie.spec write-requires write-face-requires same-length returns)

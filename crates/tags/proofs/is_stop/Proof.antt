@@ -1,5 +1,5 @@
 -- `tags::is_stop` meets its contract: a byte that no test stops stands in a run of plain bytes. Assumes nothing.
-use Rattle.lexis_rules.proofs.Bytes.{tag-unstopped}
+use Rattle.lexis_laws.proofs.Bytes.{tag-unstopped}
 use Rattle.tags.proofs.is_stop.Statement.{statement}
 use Rattle.tags.proofs.is_stop.Tie as tie
 

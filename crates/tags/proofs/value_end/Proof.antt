@@ -4,7 +4,8 @@ use lib.ListN.{length}
 use borrow.Author.Needs.{needs}
 use Rattle.reading.specs.Places.{Reaches}
 use Rattle.reading.proofs.Loops.{reaches-start}
-use Rattle.lexis.proofs.Loops.{item-turn, past-item-less}
+use Rattle.items.proofs.Loops.{item-turn}
+use Rattle.lexis.proofs.Loops.{past-item-less}
 use Rattle.arc_rules.specs.Tags.{tagValue}
 use Rattle.tags.proofs.TagParts.{value-on, value-off}
 use Rattle.tags.proofs.value_end.Statement.{statement}

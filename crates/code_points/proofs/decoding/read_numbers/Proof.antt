@@ -4,7 +4,7 @@ use Prim.Native.Nat.{_-_, _+_, _*_, _<_}
 use Rattle.punycode_rules.specs.Punycode.{digitOf, threshold}
 use Rattle.code_points.specs.Internal.{limit}
 use lib.ListN.{length, take, getD}
-use Rattle.punycode_rules.proofs.Digits.{scalar-below}
+use Rattle.punycode_laws.proofs.Digits.{scalar-below}
 use native.Mathlib.Omega.{arith}
 use borrow.Author.Needs.{needs}
 use mathlib.Core.Path.{_≡_, sym, ap, _∙_}

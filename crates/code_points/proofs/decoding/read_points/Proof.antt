@@ -1,6 +1,6 @@
 -- `code_points::decoding::read_points` meets its contract: the basic code points, and then the numbers, as in the definition. Assumes nothing.
 use native.Mathlib.Omega.{arith}
-use Rattle.punycode_rules.proofs.Basics.{before-inside, consumed-none, consumed-some}
+use Rattle.punycode_laws.proofs.Basics.{before-inside, consumed-none, consumed-some}
 use Rattle.code_points.proofs.Copying.{basics-long, basics-opened, basics-then, basics-not}
 use borrow.Author.Needs.{needs}
 use Rattle.code_points.proofs.decoding.read_points.Statement.{statement}

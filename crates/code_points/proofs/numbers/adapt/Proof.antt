@@ -2,7 +2,7 @@
 use native.Mathlib.Omega.{arith}
 use Prim.Native.Nat.{_/_}
 use native.Mathlib.Nat.{div-le-self}
-use Rattle.punycode_rules.proofs.Adapting.{adapt-first, adapt-later}
+use Rattle.punycode_laws.proofs.Adapting.{adapt-first, adapt-later}
 use borrow.Author.Needs.{needs}
 use Rattle.code_points.proofs.numbers.adapt.Statement.{statement}
 use Rattle.code_points.proofs.numbers.adapt.Tie as tie

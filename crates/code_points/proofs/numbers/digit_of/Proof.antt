@@ -1,6 +1,6 @@
 -- `code_points::numbers::digit_of` meets its contract: each test in turn is a case of the definition. Assumes nothing.
 use native.Mathlib.Omega.{arith}
-use Rattle.punycode_rules.proofs.Digits.{small-letter, small-from, capital, capital-from, figure, figure-from, no-digit}
+use Rattle.punycode_laws.proofs.Digits.{small-letter, small-from, capital, capital-from, figure, figure-from, no-digit}
 use borrow.Author.Needs.{needs}
 use Rattle.code_points.proofs.numbers.digit_of.Statement.{statement}
 use Rattle.code_points.proofs.numbers.digit_of.Tie as tie

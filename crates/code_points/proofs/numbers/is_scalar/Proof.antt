@@ -1,5 +1,5 @@
 -- `code_points::numbers::is_scalar` meets its contract: the two tests are those of the definition. Assumes nothing.
-use Rattle.punycode_rules.proofs.Digits.{scalar-low, scalar-high}
+use Rattle.punycode_laws.proofs.Digits.{scalar-low, scalar-high}
 use borrow.Author.Needs.{needs}
 use Rattle.code_points.proofs.numbers.is_scalar.Statement.{statement}
 use Rattle.code_points.proofs.numbers.is_scalar.Tie as tie

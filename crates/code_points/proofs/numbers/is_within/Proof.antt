@@ -1,5 +1,5 @@
 -- `code_points::numbers::is_within` meets its contract: the two tests are those of the definition. Assumes nothing.
-use Rattle.punycode_rules.proofs.Digits.{within-below, within-from}
+use Rattle.punycode_laws.proofs.Digits.{within-below, within-from}
 use Rattle.code_points.proofs.numbers.is_within.Statement.{statement}
 use Rattle.code_points.proofs.numbers.is_within.Tie as tie
 

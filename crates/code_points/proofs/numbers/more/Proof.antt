@@ -1,6 +1,6 @@
 -- `code_points::numbers::more` meets its contract: the variables are small, so that nothing overflows. Assumes nothing.
 use native.Mathlib.Omega.{arith}
-use Rattle.punycode_rules.proofs.Digits.{threshold-bounds}
+use Rattle.punycode_laws.proofs.Digits.{threshold-bounds}
 use Rattle.code_points.proofs.Bounds.{digit-large, weight-large}
 use borrow.Author.Needs.{needs}
 use Rattle.code_points.proofs.numbers.more.Statement.{statement}

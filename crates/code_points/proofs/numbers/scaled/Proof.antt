@@ -1,6 +1,6 @@
 -- `code_points::numbers::scaled` meets its contract: at each turn the bias of what is left is that of the whole. Assumes nothing.
 use native.Mathlib.Omega.{arith}
-use Rattle.punycode_rules.proofs.Adapting.{Turns, turns-start, turns-on, turns-end, share}
+use Rattle.punycode_laws.proofs.Adapting.{Turns, turns-start, turns-on, turns-end, share}
 use Rattle.code_points.proofs.numbers.scaled.Statement.{statement}
 use Rattle.code_points.proofs.numbers.scaled.Tie as tie
 

@@ -1,5 +1,5 @@
 -- `code_points::numbers::threshold` meets its contract: each test in turn is a case of the definition. Assumes nothing.
-use Rattle.punycode_rules.proofs.Digits.{threshold-low, threshold-high, threshold-between}
+use Rattle.punycode_laws.proofs.Digits.{threshold-low, threshold-high, threshold-between}
 use borrow.Author.Needs.{needs}
 use Rattle.code_points.proofs.numbers.threshold.Statement.{statement}
 use Rattle.code_points.proofs.numbers.threshold.Tie as tie

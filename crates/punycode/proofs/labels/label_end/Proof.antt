@@ -7,7 +7,7 @@ use Rattle.reading.specs.Places.{Reaches}
 use Rattle.reading.specs.Readers.{run}
 use Rattle.reading.proofs.Loops.{reaches-start, run-out}
 use Rattle.punycode_rules.specs.Labels.{inLabel}
-use Rattle.punycode_rules.proofs.Spelling.{label-stop, label-go}
+use Rattle.punycode_laws.proofs.Spelling.{label-stop, label-go}
 use Rattle.punycode.proofs.labels.label_end.Statement.{statement}
 use Rattle.punycode.proofs.labels.label_end.Tie as tie
 

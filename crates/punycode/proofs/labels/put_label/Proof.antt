@@ -7,7 +7,7 @@ use Rattle.code_points.proofs.Headlines.{tells}
 use native.Mathlib.Omega.{arith}
 use mathlib.Core.Path.{sym, _∙_}
 use Rattle.punycode.proofs.Labelling.{told, told-points, label-plain, label-failed, label-text, label-long}
-use Rattle.punycode_rules.proofs.Spelling.{prefixed-long}
+use Rattle.punycode_laws.proofs.Spelling.{prefixed-long}
 use borrow.Author.Needs.{needs}
 use Rattle.punycode.proofs.labels.put_label.Statement.{statement}
 use Rattle.punycode.proofs.labels.put_label.Tie as tie

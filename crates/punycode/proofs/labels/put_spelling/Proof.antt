@@ -3,7 +3,7 @@ use Prim.Native.Nat.{_-_}
 use native.Mathlib.Omega.{arith}
 use borrow.Author.Needs.{needs}
 use lib.ListN.{length}
-use Rattle.punycode_rules.proofs.Spelling.{end-low}
+use Rattle.punycode_laws.proofs.Spelling.{end-low}
 use Rattle.punycode.proofs.Labelling.{Written, written-start, written-over, written-end, written-on}
 use Rattle.punycode.proofs.labels.put_spelling.Statement.{statement}
 use Rattle.punycode.proofs.labels.put_spelling.Tie as tie

@@ -2,7 +2,7 @@
 use Prim.Native.Nat.{_-_}
 use native.Mathlib.Omega.{arith}
 use lib.ListN.{getD}
-use Rattle.punycode_rules.proofs.Encoding.{utf8-bounds}
+use Rattle.punycode_laws.proofs.Encoding.{utf8-bounds}
 use Rattle.punycode.proofs.Writing.{Pointed, pointed-start, pointed-small, pointed-on, pointed-end}
 use Rattle.punycode.proofs.utf8.put_points.Statement.{statement}
 use Rattle.punycode.proofs.utf8.put_points.Tie as tie

@@ -2,9 +2,9 @@
 use native.Mathlib.Omega.{arith}
 use mathlib.Core.Path.{_≡_, refl, sym, _∙_}
 use borrow.Author.Needs.{needs}
-use Rattle.resinfo.specs.declared.parts.Method.the-variants.{Read}
-use Rattle.resinfo.specs.Parts.{methodAt}
-use Rattle.resinfo.proofs.PartPlaces.{MethodPlaces, method-places}
+use Rattle.result_parts.specs.declared.Method.the-variants.{Read}
+use Rattle.result_parts.specs.Parts.{methodAt}
+use Rattle.result_parts.proofs.PartPlaces.{MethodPlaces, method-places}
 use Rattle.report.proofs.Turns.{no-mark, no-method, turn-rest, turn-read}
 use Rattle.report.proofs.results.put_result.Statement.{statement}
 use Rattle.report.proofs.results.put_result.Tie as tie

@@ -1,0 +1,1 @@
+// The laws and theorems of ARC chains; no code.

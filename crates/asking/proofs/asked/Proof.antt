@@ -1,0 +1,82 @@
+-- `asking::asked` meets its contract: each test in turn is a case of the definition. Assumes nothing.
+use Rattle.messages_rules.proofs.Lines.{asked-strip, asked-report, asked-explain, asked-judge, asked-neither, asked-other, asked-write, asked-unlisted}
+use borrow.Author.Needs.{needs}
+use Rattle.asking.proofs.asked.Statement.{statement}
+use Rattle.asking.proofs.asked.Tie as tie
+
+slice-aggregate-is-same : tie.Need-slice-aggregate-is-same
+slice-aggregate-is-same c = search needs
+
+is-same-requires : tie.Need-is-same-requires
+is-same-requires c κs = search needs
+
+returns : tie.Need-returns
+returns c = search asked-strip
+
+slice-aggregate-is-same-2 : tie.Need-slice-aggregate-is-same-2
+slice-aggregate-is-same-2 c = search needs
+
+is-same-requires-2 : tie.Need-is-same-requires-2
+is-same-requires-2 c κs = search needs
+
+returns-2 : tie.Need-returns-2
+returns-2 c = search asked-report
+
+slice-aggregate-is-same-3 : tie.Need-slice-aggregate-is-same-3
+slice-aggregate-is-same-3 c = search needs
+
+is-same-requires-3 : tie.Need-is-same-requires-3
+is-same-requires-3 c κs = search needs
+
+returns-3 : tie.Need-returns-3
+returns-3 c = search asked-explain
+
+slice-aggregate-is-same-4 : tie.Need-slice-aggregate-is-same-4
+slice-aggregate-is-same-4 c = search needs
+
+is-same-requires-4 : tie.Need-is-same-requires-4
+is-same-requires-4 c κs = search needs
+
+returns-4 : tie.Need-returns-4
+returns-4 c = search asked-judge
+
+returns-5 : tie.Need-returns-5
+returns-5 c = search asked-neither
+
+slice-aggregate-is-same-5 : tie.Need-slice-aggregate-is-same-5
+slice-aggregate-is-same-5 c = search needs
+
+is-same-requires-5 : tie.Need-is-same-requires-5
+is-same-requires-5 c κs = search needs
+
+returns-6 : tie.Need-returns-6
+returns-6 c = search asked-write
+
+returns-7 : tie.Need-returns-7
+returns-7 c = search asked-unlisted
+
+returns-8 : tie.Need-returns-8
+returns-8 c = search asked-other
+
+pub asked-spec : {M : Type 1} → statement M
+asked-spec =
+    tie.close
+    (tie.spec
+    slice-aggregate-is-same
+    is-same-requires
+    returns
+    slice-aggregate-is-same-2
+    is-same-requires-2
+    returns-2
+    slice-aggregate-is-same-3
+    is-same-requires-3
+    returns-3
+    slice-aggregate-is-same-4
+    is-same-requires-4
+    returns-4
+    returns-5
+    slice-aggregate-is-same-5
+    is-same-requires-5
+    returns-6
+    returns-7
+    returns-8)

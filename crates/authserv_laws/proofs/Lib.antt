@@ -1,0 +1,7 @@
+pub mod Entries
+pub mod EntryBytes
+pub mod Feeds
+pub mod OwnLists
+pub mod Ends
+pub mod Parts
+pub mod Headlines

@@ -1,0 +1,4 @@
+pub mod Lines
+pub mod Extents
+pub mod Field
+pub mod Fields

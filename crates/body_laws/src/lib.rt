@@ -1,0 +1,1 @@
+// The laws and theorems of bodies, reports and newer versions; no code.

@@ -1,0 +1,3 @@
+pub mod Returned
+pub mod WhoseExamples
+pub mod Headlines

@@ -1,0 +1,10 @@
+-- `faces::strip_face` meets its contract: field by field. Assumes nothing.
+use mathlib.Core.Path.{refl}
+use Rattle.faces.proofs.strip_face.Statement.{statement}
+use Rattle.faces.proofs.strip_face.Tie as tie
+
+returns : tie.Need-returns
+returns c = refl
+
+pub strip-face-spec : {M : Type 1} → statement M
+strip-face-spec = tie.close (tie.spec returns)

@@ -1,0 +1,54 @@
+-- `judgement_words::put_chain` meets its contract: the front is a phrase of the text, and each test is a case of the definition. Assumes nothing.
+use Rattle.judgement_words.proofs.Words.{chain-none, chain-failed, chain-built}
+use borrow.Author.Needs.{needs}
+use Rattle.judgement_words.proofs.put_chain.Statement.{statement}
+use Rattle.judgement_words.proofs.put_chain.Tie as tie
+
+slice-aggregate-put-phrase : tie.Need-slice-aggregate-put-phrase
+slice-aggregate-put-phrase c = search needs
+
+cast-put-phrase : tie.Need-cast-put-phrase
+cast-put-phrase c = search needs
+
+put-phrase-requires : tie.Need-put-phrase-requires
+put-phrase-requires c κs = search needs
+
+same-length : tie.Need-same-length
+same-length c = search needs
+
+returns : tie.Need-returns
+returns c = search chain-none
+
+put-failed-requires : tie.Need-put-failed-requires
+put-failed-requires c κs = search needs
+
+same-length-2 : tie.Need-same-length-2
+same-length-2 c = search needs
+
+returns-2 : tie.Need-returns-2
+returns-2 c = search chain-failed
+
+put-built-requires : tie.Need-put-built-requires
+put-built-requires c κs = search needs
+
+same-length-3 : tie.Need-same-length-3
+same-length-3 c = search needs
+
+returns-3 : tie.Need-returns-3
+returns-3 c = search chain-built
+
+pub put-chain-spec : {M : Type 1} → statement M
+put-chain-spec =
+    tie.close
+    (tie.spec
+    slice-aggregate-put-phrase
+    cast-put-phrase
+    put-phrase-requires
+    same-length
+    returns
+    put-failed-requires
+    same-length-2
+    returns-2
+    put-built-requires
+    same-length-3
+    returns-3)

@@ -1,0 +1,30 @@
+-- `judgement_words::put_reason` meets its contract: the words are a phrase of the text. Assumes nothing.
+use Rattle.judgement_words.proofs.Words.{reason-put}
+use borrow.Author.Needs.{needs}
+use Rattle.judgement_words.proofs.put_reason.Statement.{statement}
+use Rattle.judgement_words.proofs.put_reason.Tie as tie
+
+slice-aggregate-put-phrase : tie.Need-slice-aggregate-put-phrase
+slice-aggregate-put-phrase c = search needs
+
+reason-place-requires : tie.Need-reason-place-requires
+reason-place-requires c κs = search needs
+
+put-phrase-requires : tie.Need-put-phrase-requires
+put-phrase-requires c κs = search needs
+
+same-length : tie.Need-same-length
+same-length c = search needs
+
+returns : tie.Need-returns
+returns c = search reason-put
+
+pub put-reason-spec : {M : Type 1} → statement M
+put-reason-spec =
+    tie.close
+    (tie.spec
+    slice-aggregate-put-phrase
+    reason-place-requires
+    put-phrase-requires
+    same-length
+    returns)

@@ -1,0 +1,1 @@
+// The laws of the small pieces of a body; no code.

@@ -1,0 +1,13 @@
+pub mod Headlines
+pub mod Lists
+pub mod Digits
+pub mod Adapting
+pub mod Decoding
+pub mod Encoding
+pub mod Basics
+pub mod Spelling
+pub mod Hyphens
+pub mod Lengths
+pub mod Absent
+pub mod ALabels
+pub mod Case

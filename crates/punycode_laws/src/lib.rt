@@ -1,0 +1,1 @@
+// The laws and theorems of Punycode and of texts with U-labels; no code.

@@ -1,0 +1,4 @@
+pub mod Following
+pub mod Values
+pub mod Results
+pub mod Keywords

@@ -1,0 +1,1 @@
+// The laws of one result of a body; no code.

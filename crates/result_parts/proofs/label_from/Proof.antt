@@ -1,0 +1,50 @@
+-- `result_parts::label_from` meets its contract: each way through the code is a case of the definition. Assumes nothing.
+use Rattle.result_parts.proofs.Labels.{label-no-space, label-no-type, label-no-dot, label-no-name, label-no-equals, label-read}
+use borrow.Author.Needs.{needs}
+use Rattle.result_parts.proofs.label_from.Statement.{statement}
+use Rattle.result_parts.proofs.label_from.Tie as tie
+
+returns : tie.Need-returns
+returns c = search label-no-space
+
+keyword-end-requires : tie.Need-keyword-end-requires
+keyword-end-requires c κs = search needs
+
+returns-2 : tie.Need-returns-2
+returns-2 c = search label-no-type
+
+mark-end-requires : tie.Need-mark-end-requires
+mark-end-requires c κs = search needs
+
+returns-3 : tie.Need-returns-3
+returns-3 c = search label-no-dot
+
+keyword-end-requires-2 : tie.Need-keyword-end-requires-2
+keyword-end-requires-2 c κs = search needs
+
+returns-4 : tie.Need-returns-4
+returns-4 c = search label-no-name
+
+mark-end-requires-2 : tie.Need-mark-end-requires-2
+mark-end-requires-2 c κs = search needs
+
+returns-5 : tie.Need-returns-5
+returns-5 c = search label-no-equals
+
+returns-6 : tie.Need-returns-6
+returns-6 c = search label-read
+
+pub label-from-spec : {M : Type 1} → statement M
+label-from-spec =
+    tie.close
+    (tie.spec
+    returns
+    keyword-end-requires
+    returns-2
+    mark-end-requires
+    returns-3
+    keyword-end-requires-2
+    returns-4
+    mark-end-requires-2
+    returns-5
+    returns-6)

@@ -1,0 +1,139 @@
+-- What stripping promises beyond its contract. Each theorem is about the definition that the contract of `strip::strip` cites.
+-- Assumes nothing.
+use Prim.Native.Nat.{ℕ, zero, suc, _+_, _≤_}
+use native.Mathlib.Omega.{arith}
+use mathlib.Core.Path.{_≡_, refl, sym, ap, _∙_}
+use mathlib.Core.Bool.{Bool, true, false, not, _||_}
+use mathlib.Core.List.{List, [], _∷_, _++_}
+use lib.Dec.{ltb}
+use lib.ListN.{length}
+use Rattle.reading.specs.Walks.{Walked}
+use Rattle.lexis_rules.specs.Limits.{byteLimit}
+use Rattle.block_rules.specs.Fields.{Field, fields, bytesOf}
+use Rattle.authserv_rules.specs.OwnList.{ownList}
+use Rattle.block_laws.proofs.Fields.{fields-fine, select-fields, select-sum, select-again, select-none}
+use Rattle.authserv_rules.specs.Identifier.{sameIdentifier}
+use Rattle.authserv_rules.specs.Listed.{among}
+use Rattle.strip_rules.specs.Strip.{isRemoved, removedOf, keptOf, Answer, refuse, fitted, orRefusal, stripFields, strip}
+use Rattle.strip_rules.specs.Answers.{leaves}
+use Rattle.strip_laws.proofs.Laws.{Listed, strip-to, strip-is, strip-sound}
+use Rattle.strip_laws.proofs.Alike.{same-stripped}
+
+-- where the first answers are not given
+module _ (block list : List ℕ) (room : ℕ) where
+  strip-big : ltb byteLimit (length block) ≡ true → strip block list room ≡ refuse 1 0
+  unfolding strip
+  strip-big e = rw (strip, e)
+
+  strip-list : ltb byteLimit (length block) ≡ false → (own : List (List ℕ)) → ownList list ≡ record { items = own; number = 0; place = 0 }
+      → strip block list room ≡ stripFields block (among own) room
+  unfolding strip
+  strip-list e own q = rw (strip, e, q)
+
+-- zero counts, and nothing is written
+abbrev pub Silent : Answer → Type 0
+Silent a = a ≡ refuse (a .number) (a .place)
+
+-- A refusal returns zero counts and writes nothing.
+pub strip-refused : (block list : List ℕ) (room : ℕ) → (strip block list room .number ≡ 0 → ⊥) → Silent (strip block list room)
+unfolding strip stripFields fitted
+strip-refused block list room ne = big (ltb byteLimit (length block)) refl
+  where
+    keeps : List Field
+    keeps = keptOf (Listed list) (fields block .items)
+
+    given : (n p : ℕ) → strip block list room ≡ refuse n p → Silent (strip block list room)
+    given n p e = rw e
+
+    room-is : ltb byteLimit (length block) ≡ false → ownList list .number ≡ 0 → fields block .number ≡ 0
+        → (t : Bool) → ltb room (length (bytesOf keeps)) ≡ t → Silent (strip block list room)
+    room-is a b c true d = given 6 (length (bytesOf keeps)) (rw (strip-to block list room a b c, fitted, d))
+    room-is a b c false d = absurd (ne (rw (strip-to block list room a b c, fitted, d)))
+
+    block-is : ltb byteLimit (length block) ≡ false → ownList list .number ≡ 0 → (n : ℕ) → fields block .number ≡ n
+        → Silent (strip block list room)
+    block-is a b zero c = room-is a b c (ltb room (length (bytesOf keeps))) refl
+    block-is a b (suc n) c = given (suc n) (fields block .place) (rw (strip, a, orRefusal, b, stripFields, orRefusal, c))
+
+    list-is : ltb byteLimit (length block) ≡ false → (n : ℕ) → ownList list .number ≡ n
+        → Silent (strip block list room)
+    list-is a zero b = block-is a b (fields block .number) refl
+    list-is a (suc n) b = given (suc n) (ownList list .place) (rw (strip, a, orRefusal, b))
+
+    big : (t : Bool) → ltb byteLimit (length block) ≡ t → Silent (strip block list room)
+    big true a = given 1 0 (strip-big block list room a)
+    big false a = list-is a (ownList list .number) refl
+
+-- So it leaves the lent buffer as it was.
+pub strip-silent : (block list old : List ℕ) → (strip block list (length old) .number ≡ 0 → ⊥) → leaves (strip block list (length old)) old ≡ old
+strip-silent block list old ne = rw (strip-refused block list (length old) ne)
+
+module _ (block list : List ℕ) (room : ℕ) (z : strip block list room .number ≡ 0) where
+  -- Kept plus removed bytes make the block length.
+  pub strip-sum : strip block list room .kept + strip block list room .removed ≡ length block
+  strip-sum =
+      let s = strip-sound block list room z in
+      let w = select-sum (isRemoved (Listed list)) (fields block .items) in
+      rw (s .is) (w ∙ ap length (fields-fine block (s .fielded) .bytes))
+
+  -- The output is itself a sound block, whose fields are exactly the kept ones, in order.
+  pub strip-fields : fields (strip block list room .written) ≡ record { items = keptOf (Listed list) (fields block .items); number = 0; place = 0 }
+  strip-fields =
+      let s = strip-sound block list room z in
+      rw (s .is) (select-fields (λ f. not (isRemoved (Listed list) f)) block (s .fielded))
+
+  -- Stripping the stripped block with the same list, and room for it, gives the same bytes and removes nothing.
+  pub strip-twice : (room′ : ℕ) → strip block list room .kept ≤ room′
+      → strip (strip block list room .written) list room′
+      ≡ record { number = 0; place = 0; kept = strip block list room .kept; removed = 0; fields = 0; written = strip block list room .written }
+  unfolding bytesOf
+  strip-twice room′ h =
+      let s = strip-sound block list room z in
+      let listed = Listed list in
+      let fs = fields block .items in
+      let out = bytesOf (keptOf listed fs) in
+      let t = select-fields (λ f. not (isRemoved listed f)) block (s .fielded) in
+      let items : fields out .items ≡ keptOf listed fs = ap (λ (w : Walked Field). w .items) t in
+      let again : keptOf listed (keptOf listed fs) ≡ keptOf listed fs = select-again (λ f. not (isRemoved listed f)) fs in
+      let nothing : removedOf listed (keptOf listed fs) ≡ [] = select-none (isRemoved listed) fs in
+      let all = ap length (fields-fine block (s .fielded) .bytes) in
+      let roomy : length out ≤ room′ = rw (s .is) at h in
+      let r = strip-is out list room′ (omega (arith, select-sum (isRemoved listed) fs, all, s .small)) (s .listed)
+      (ap (λ (w : Walked Field). w .number) t) (rw (items, again) roomy) in
+      rw (s .is) (r ∙ rw (items, again, nothing))
+
+-- ==== a repeated list entry changes nothing
+
+-- an entry that stands in the list already, put anywhere else, lists nothing new
+among-again : (e i : List ℕ) (xs ys zs : List (List ℕ)) → among (xs ++ (e ∷ (ys ++ (e ∷ zs)))) i ≡ among (xs ++ (e ∷ (ys ++ zs))) i
+unfolding among
+among-again e i [] ys zs = first (sameIdentifier e i) refl
+  where
+    later : (ys : List (List ℕ)) → sameIdentifier e i ≡ false → among (ys ++ (e ∷ zs)) i ≡ among (ys ++ zs) i
+    later [] q = rw (among, q)
+    later (y ∷ ys) q = ap (λ (t : Bool). sameIdentifier y i || t) (later ys q)
+
+    first : (t : Bool) → sameIdentifier e i ≡ t → (sameIdentifier e i || among (ys ++ (e ∷ zs)) i) ≡ (sameIdentifier e i || among (ys ++ zs) i)
+    first true q = rw q
+    first false q = rw (q, later ys q)
+among-again e i (x ∷ xs) ys zs = ap (λ (t : Bool). sameIdentifier x i || t) (among-again e i xs ys zs)
+
+-- A repeated list entry changes nothing: two good lists, of which the second has an entry of the first once more, give the same answer
+-- and the same bytes for every block and every room.
+pub strip-repeated : (block list list′ : List ℕ) (room : ℕ) (e : List ℕ) (xs ys zs : List (List ℕ))
+    → ownList list ≡ record { items = xs ++ (e ∷ (ys ++ zs)); number = 0; place = 0 }
+    → ownList list′ ≡ record { items = xs ++ (e ∷ (ys ++ (e ∷ zs))); number = 0; place = 0 }
+    → strip block list′ room ≡ strip block list room
+strip-repeated block list list′ room e xs ys zs a b = go (ltb byteLimit (length block)) refl
+  where
+    own : List (List ℕ)
+    own = xs ++ (e ∷ (ys ++ zs))
+
+    own′ : List (List ℕ)
+    own′ = xs ++ (e ∷ (ys ++ (e ∷ zs)))
+
+    go : (t : Bool) → ltb byteLimit (length block) ≡ t → strip block list′ room ≡ strip block list room
+    go true q = strip-big block list′ room q ∙ sym (strip-big block list room q)
+    go false q =
+        strip-list block list′ room q own′ b
+        ∙ (same-stripped (among own′) (among own) (λ i. among-again e i xs ys zs) block room ∙ sym (strip-list block list room q own a))

@@ -1,0 +1,5 @@
+pub mod Laws
+pub mod Alike
+pub mod Headlines
+pub mod Ways
+pub mod ByFields

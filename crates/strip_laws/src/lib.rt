@@ -1,0 +1,1 @@
+// The laws and theorems of stripping; no code.
