@@ -18,7 +18,7 @@ use Rattle.instances.specs.declared.Start.{Start}
 use Rattle.instances.specs.declared.Start.the-variants as start
 use Rattle.taglist.specs.declared.Listed.{Listed}
 use Rattle.taglist.specs.declared.Listed.the-variants as listed
-use Rattle.arc_rules.specs.Tags.{Tag, tags, valueNamed}
+use Rattle.tag_rules.specs.Tags.{Tag, tags, valueNamed}
 use Rattle.arc_rules.specs.Sets.{instance, chainValue, Said, isSignature, isSeal, says}
 use Rattle.instances.specs.Answers.{startGot}
 use Rattle.tagtests.specs.Lists.{listTest, listSaid, listedAt}

@@ -5,3 +5,4 @@ pub mod Acceptance
 pub mod Answering
 pub mod Headlines
 pub mod Ways
+pub mod ChainSamples

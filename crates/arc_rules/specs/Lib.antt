@@ -1,4 +1,3 @@
-pub mod Tags
 pub mod Sets
 pub mod Chain
 pub mod Accepted

@@ -12,7 +12,7 @@ use Rattle.lexis_rules.specs.Pieces.{digits, decimal}
 use Rattle.lexis_rules.specs.Words.{skip}
 use Rattle.arc_rules.specs.declared.Kind.{Kind}
 use Rattle.arc_rules.specs.declared.Kind.the-variants.{Results, Signature, Seal, Other}
-use Rattle.arc_rules.specs.Tags.{Tag, tags, named, unrepeated, needs, valueNamed}
+use Rattle.tag_rules.specs.Tags.{Tag, tags, named, unrepeated, needs, valueNamed}
 
 -- Kinds: ARC-Authentication-Results, ARC-Message-Signature, ARC-Seal
 unfoldable pub kindNamed : List ℕ → Kind

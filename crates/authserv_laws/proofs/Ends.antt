@@ -17,7 +17,8 @@ use Rattle.authserv_rules.specs.declared.Own.{Own}
 use Rattle.authserv_rules.specs.declared.Own.the-variants.{Ours, Others, Unreadable}
 use Rattle.authserv_rules.specs.Listed.{ownIf}
 use Rattle.authserv_rules.specs.Spelled.{spelledList, linesOf, amongLines, amongSpelled, ownOfSpelled}
-use Rattle.authserv_rules.specs.Ends.{feedless, untilFeed, endsFrom, endsOf, span, cutAt}
+use Rattle.authserv_rules.specs.Ends.{feedless, untilFeed, endsFrom, endsOf, cutAt}
+use Rattle.sequences.specs.Spans.{span}
 use Rattle.authserv_laws.proofs.Feeds.{lines-first}
 use Rattle.authserv_laws.proofs.OwnLists.{spelled-few, good-few}
 

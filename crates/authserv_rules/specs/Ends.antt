@@ -5,6 +5,7 @@ use mathlib.Core.Bool.{Bool, not}
 use mathlib.Core.List.{List, [], _∷_}
 use lib.Dec.{eqb}
 use lib.ListN.{length, take, drop}
+use Rattle.sequences.specs.Spans.{span}
 use Rattle.reading.specs.Readers.{Reader, run}
 use Rattle.authserv_rules.specs.Spelled.{linesOf}
 
@@ -24,10 +25,6 @@ endsFrom at (l ∷ ls) = (at + length l) ∷ endsFrom (suc (at + length l)) ls
 -- the place of each line's end: of its LF, or the end of the bytes where the last line has none
 abbrev pub endsOf : List ℕ → List ℕ
 endsOf own = endsFrom 0 (linesOf own)
-
--- the bytes from a up to e, as far as they stand inside
-abbrev pub span : List ℕ → ℕ → ℕ → List ℕ
-span s a e = take (e - a) (drop a s)
 
 -- bytes cut at places, any places, from a place on: what stands before each of them, without the byte that stands there
 unfoldable pub cutAt : List ℕ → ℕ → List ℕ → List (List ℕ)

@@ -1,17 +1,19 @@
--- Labels and fields at places of a slice, with premises as a need is handed them: what a call ensures of its answer, and what a
+-- Names, labels and fields at places of a slice, with premises as a need is handed them: what a call ensures of its answer, and what a
 -- test says of that. Each law opens one definition. Assumes nothing.
 use Prim.Native.Char.{code}
 use Prim.Native.Nat.{ℕ, suc, _+_, _-_, _≤_, _<_}
 use native.Mathlib.Omega.{arith}
 use mathlib.Core.Path.{_≡_, refl, sym, _∙_}
-use mathlib.Core.Bool.{Bool, true, false, cond}
+use mathlib.Core.Bool.{Bool, true, false, not, cond}
 use mathlib.Core.List.{List, [], _∷_}
 use borrow.Author.Tests.{le-leb, lt-leb}
-use lib.Dec.{eqb}
+use lib.Dec.{eqb, leb}
 use lib.ListN.{length, getD, drop, length-drop, drop-of-length-le}
 use lib.Seq.{drop-drop}
+use Rattle.sequences.proofs.Booleans.{and-none}
+use Rattle.reading.specs.Texts.{within}
 use Rattle.reading.specs.Readers.{run, many}
-use Rattle.lexis_rules.specs.declared.Class.the-variants.{Blank}
+use Rattle.lexis_rules.specs.declared.Class.the-variants.{Blank, Name}
 use Rattle.lexis_rules.specs.Bytes.{inClass}
 use Rattle.block.specs.declared.Next.{Next}
 use Rattle.block.specs.declared.Next.the-variants.{Field, End, Refused}
@@ -19,6 +21,20 @@ use Rattle.block_rules.specs.Fields.{lineText, line, name, nameColon, folded, e
 use Rattle.block.specs.Steps.{nextOf, nextFrom, finishedAt, finished}
 use Rattle.reading.proofs.Places.{behind-first}
 use Rattle.block_laws.proofs.Lines.{label-zero, label-suc, field-2, field-3, field-4, field-is, closed-2, closed-is}
+
+-- ==== names
+
+pub name-byte : (b : ℕ) → 33 ≤ b → b ≤ 126 → inClass Name b ≡ not (eqb b (code ":"))
+unfolding inClass within
+name-byte b h k = rw (le-leb 33 b h, le-leb b 126 k)
+
+pub name-below : (b : ℕ) → b < 33 → false ≡ inClass Name b
+unfolding inClass within
+name-below b h = rw (lt-leb 33 b h)
+
+pub name-above : (b : ℕ) → 126 < b → false ≡ inClass Name b
+unfolding inClass within
+name-above b h = rw (lt-leb b 126 h, and-none (leb 33 b))
 
 -- ==== labels
 

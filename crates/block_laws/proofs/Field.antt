@@ -236,7 +236,7 @@ extent-fits : Fits extent
 unfolding extent
 extent-fits xs = omega (arith, line-fits xs, many-fits folded folded-fits 0 (drop (line xs) xs) zero-le, length-drop (line xs) xs)
 
-extent-some : (xs : List ℕ) → (line xs ≡ 0 → ⊥) → 0 < extent xs
+pub extent-some : (xs : List ℕ) → (line xs ≡ 0 → ⊥) → 0 < extent xs
 unfolding extent
 extent-some xs h = omega arith
 

@@ -18,9 +18,9 @@ use Rattle.reading.specs.Places.{Reaches}
 use Rattle.reading.proofs.Readers.{run-fits}
 use Rattle.reading.proofs.Loops.{run-off, run-out}
 use Rattle.lexis_rules.specs.Bytes.{alike}
-use Rattle.arc_rules.specs.Tags.{white, solid, trimmed}
+use Rattle.tag_rules.specs.Tags.{white, solid, trimmed}
 use Rattle.arc_rules.specs.Sets.{chainValue}
-use Rattle.tags.specs.Tags.{span}
+use Rattle.sequences.specs.Spans.{span}
 use Rattle.tags.proofs.TagParts.{inside}
 
 -- ==== space around a value

@@ -4,7 +4,7 @@ ghost use mathlib.Core.Path.{_≡_};
 ghost use mathlib.Core.Bool.{true};
 ghost use Prim.Native.Nat.{_+_};
 ghost use Rattle.reading.specs.Readers.{run};
-ghost use Rattle.arc_rules.specs.Tags.{white, solid, trimmed};
+ghost use Rattle.tag_rules.specs.Tags.{white, solid, trimmed};
 ghost use Rattle.arc_rules.specs.Sets.{chainValue};
 
 // Whether a byte is space.

@@ -14,7 +14,7 @@ use Rattle.reading.specs.Parsers.{Got, nothing, got, _>>_, give, when}
 use Rattle.reading.specs.Places.{from}
 use Rattle.reading.proofs.Places.{goes-on, stops, gives, passes, fails}
 use Rattle.resinfo_rules.specs.Table.{listed, ptypes}
-use Rattle.values.specs.Values.{span}
+use Rattle.sequences.specs.Spans.{span}
 use Rattle.compose.specs.Entries.{Entry, shown, isKeyword, stands, kindOf, allowed}
 use Rattle.columns.specs.declared.coded.Text as read
 use Rattle.columns.specs.declared.coded.Test.the-variants as test

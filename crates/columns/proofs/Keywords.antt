@@ -19,7 +19,7 @@ use Rattle.reading.proofs.Places.{goes-on, stops, byte-at, byte-none, text-at, 
 use Rattle.lexis_rules.specs.Bytes.{lower}
 use Rattle.lexis_rules.specs.Pieces.{keyword}
 use Rattle.resinfo_rules.specs.Table.{table, tabled}
-use Rattle.values.specs.Values.{span}
+use Rattle.sequences.specs.Spans.{span}
 use Rattle.compose.specs.Entries.{whole, isKeyword}
 use Rattle.compose_laws.proofs.Keywords.{keyword-is, tabled-keywords}
 use Rattle.columns.specs.Internal.{columnSize, ColumnEnd, column, unclosed}

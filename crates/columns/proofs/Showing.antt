@@ -20,7 +20,7 @@ use Rattle.reading.proofs.Sequencing.{bind-got, bind-none, give-is}
 use Rattle.reading.proofs.Readers.{there-at}
 use Rattle.reading.proofs.Loops.{there-fits}
 use Rattle.reading.proofs.Places.{at-got, at-none, goes-on, stops, byte-at, byte-none}
-use Rattle.values.specs.Values.{span}
+use Rattle.sequences.specs.Spans.{span}
 use Rattle.body.specs.Report.{escape}
 use Rattle.compose.specs.Entries.{single, coded, kindOf, kindLetter}
 use Rattle.compose_laws.proofs.Coded.{coded-finds}

@@ -14,7 +14,7 @@ use Rattle.lexis_rules.specs.Bytes.{inClass}
 use Rattle.lexis_rules.specs.Pieces.{keyword}
 use Rattle.authserv_rules.specs.Identifier.{identifierByte}
 use Rattle.resinfo_rules.specs.Results.{Kind, Property, inLocalPart}
-use Rattle.values.specs.Values.{span}
+use Rattle.sequences.specs.Spans.{span}
 use Rattle.body.specs.Report.{plain, escape}
 use Rattle.compose.specs.Promise.{Bytes}
 use Rattle.compose.specs.Entries.{Entry, shown, kindOf, kindLetter, stands, allowed, whole, single, isHex, hexValue, escaped, quotable, isText, coded}

@@ -16,7 +16,8 @@ use Rattle.block_laws.proofs.Fields.{fields-fine, walk-back}
 use Rattle.strip_rules.specs.declared.Stripped.{Stripped}
 use Rattle.strip_rules.specs.Strip.{Answer, refuse, removedOf, keptOf, done, fitted, orRefusal, stripFields}
 use Rattle.sifting.specs.Sifting.{Sifted}
-use Rattle.cutting.specs.Internal.{between, Marked}
+use Rattle.spans.specs.Between.{between}
+use Rattle.cutting.specs.Internal.{Marked}
 use Rattle.strip_rules.specs.Answers.{answerOf, leaves}
 
 fields-place : (s : List ℕ) → fields s .number ≡ 0 → fields s .place ≡ 0

@@ -15,8 +15,9 @@ use Rattle.block.specs.Steps.{nextFrom}
 use Rattle.block_laws.proofs.Fields.{select-sum, fields-fine}
 use Rattle.block.proofs.Steps.{Rest, Cut, step-end, step-refused}
 use Rattle.strip_rules.specs.Strip.{oursOrUnreadable, isRemoved, keptOf}
-use Rattle.authserv_rules.specs.Ends.{span}
-use Rattle.cutting.specs.Internal.{lastEnd, fronts, Marked}
+use Rattle.sequences.specs.Spans.{span}
+use Rattle.spans.specs.Between.{lastEnd, fronts}
+use Rattle.cutting.specs.Internal.{Marked}
 use Rattle.sifting.proofs.Sifting.{All, Summing, sums-start, cut, goes, kept-bytes, sums-gone, sums-kept, end-number, end-place, end-held, end-taken, end-some}
 
 -- ==== the loop that marks

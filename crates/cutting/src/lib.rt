@@ -4,23 +4,12 @@ use block::Next;
 use block::Walk;
 use strip_rules::Stripped;
 ghost use mathlib.Core.Path.{_≡_};
-ghost use Prim.Native.Nat.{_≤_};
-ghost use lib.ListN.{length, set};
-ghost use Rattle.sequences.specs.Stored.{Clipped};
-ghost use Rattle.authserv_rules.specs.Ends.{span, cutAt};
+ghost use lib.ListN.{length};
+ghost use Rattle.authserv_rules.specs.Ends.{cutAt};
 ghost use Rattle.authserv_rules.specs.Spelled.{amongSpelled};
 ghost use Rattle.strip_rules.specs.Strip.{stripFields};
 ghost use Rattle.strip_rules.specs.Answers.{answerOf, leaves};
-ghost use Rattle.cutting.specs.Internal.{between, Marked};
-
-// Keeps a place as the k-th of places, where there is room for it.
-fn keep(places: &mut [usize], k: usize, place: usize)
-    ensures { λ _. ⌜ now (places .exit) ≡ set (now (places .entry)) k place ⌝ }
-{
-    if k < places.len() {
-        places[k] = place;
-    }
-}
+ghost use Rattle.cutting.specs.Internal.{Marked};
 
 // The sums of a block, and where the fields that go start and end, as far as there is room for these places.
 fn mark_gone(
@@ -47,8 +36,8 @@ fn mark_gone(
                 end,
             } => {
                 if sifting::is_removed(own, ends, &s[start..name_end], &s[body_start..end - 2]) {
-                    keep(starts, fields, start);
-                    keep(stops, fields, end);
+                    places::keep(starts, fields, start);
+                    places::keep(stops, fields, end);
                     removed += end - start;
                     fields += 1;
                     at = end;
@@ -81,38 +70,6 @@ fn mark_gone(
     }
 }
 
-// The bytes from a up to e, as far as they stand inside.
-fn part(s: &[u8], a: usize, e: usize) -> &[u8]
-    ensures { λ r. ⌜ now r ≡ span (now (s .entry)) a e ⌝ }
-{
-    if e <= a {
-        return &s[..0];
-    }
-    if e <= s.len() {
-        return &s[a..e];
-    }
-    if a < s.len() {
-        return &s[a..];
-    }
-    &s[..0]
-}
-
-// Writes what stands between the fields that go.
-fn put_between(s: &[u8], starts: &[usize], stops: &[usize], count: usize, out: &mut [u8]) -> usize
-    requires { ⌜ (count ≤ length (now starts)) × (count ≤ length (now stops)) ⌝ }
-    ensures { λ r. ⌜ Clipped (now (out .entry)) 0 (between (now (s .entry)) (now (starts .entry)) (now (stops .entry)) count) (now (out .exit)) r ⌝ }
-{
-    let mut k: usize = 0;
-    let mut at: usize = 0;
-    let mut to: usize = 0;
-    while k < count {
-        to = texts::put_part(part(s, at, starts[k]), out, to);
-        at = stops[k];
-        k += 1;
-    }
-    texts::put_part(part(s, at, s.len()), out, to)
-}
-
 // The most fields that go whose places are kept: where more go, the block is gone over once more.
 const CUTS: usize = 16;
 
@@ -134,7 +91,7 @@ pub fn strip_by(s: &[u8], own: &[u8], ends: &[usize], out: &mut [u8]) -> Strippe
     if sums.fields > CUTS {
         return sifting::put_kept(s, own, ends, out);
     }
-    put_between(s, &starts, &stops, sums.fields, out);
+    spans::put_between(s, &starts, &stops, sums.fields, out);
     sums
 }
 

@@ -12,7 +12,8 @@ use Rattle.sequences.proofs.Clips.{Going, going-start, going-step, going-done}
 use Rattle.reading.specs.Readers.{run}
 use Rattle.reading.specs.Texts.{bytes}
 use Rattle.authserv_rules.specs.Spelled.{linesOf}
-use Rattle.authserv_rules.specs.Ends.{feedless, untilFeed, span}
+use Rattle.authserv_rules.specs.Ends.{feedless, untilFeed}
+use Rattle.sequences.specs.Spans.{span}
 use Rattle.authserv_laws.proofs.Ends.{lines-none, line-inside, lines-at}
 use Rattle.explain_rules.specs.declared.Line.{Line}
 use Rattle.explain_rules.specs.Explained.{kindOfLine, lineWords, goesOn, ended, linesWords, explained}

@@ -27,7 +27,7 @@ use Rattle.lexis_rules.specs.Words.{skip}
 use Rattle.lexis_laws.proofs.Numbers.{decimal-more}
 use Rattle.arc_rules.specs.declared.Kind.the-variants.{Results, Signature, Seal, Other}
 use Rattle.arc_rules.specs.Sets.{kindNamed, isInstance, instance}
-use Rattle.tags.specs.Tags.{span}
+use Rattle.sequences.specs.Spans.{span}
 use Rattle.instances.specs.Internal.{marked, worth, numbered}
 
 -- ==== kinds

@@ -15,9 +15,10 @@ use Rattle.tagtests.specs.declared.Collected.{Collected}
 use Rattle.ordered_tags.specs.declared.seen.Slot.{Slot}
 use Rattle.ordered_tags.specs.declared.seen.Slot.the-variants.{Taken, Free}
 use Rattle.lexis_rules.specs.Limits.{byteLimit}
-use Rattle.arc_rules.specs.Tags.{tag}
+use Rattle.tag_rules.specs.Tags.{tag}
 use Rattle.arc_rules.specs.Sets.{sound}
-use Rattle.tags.specs.Tags.{span, TagFound}
+use Rattle.tags.specs.Tags.{TagFound}
+use Rattle.sequences.specs.Spans.{span}
 use Rattle.tagnames.specs.Names.{holds}
 use Rattle.tagtests.specs.Lists.{tagsAt}
 use Rattle.tagtests.specs.Tests.{kept, isHeld, cvAfter, endedAt, CollectedIf}

@@ -1,2 +1,2 @@
-pub mod Spelt
+pub mod Texts
 pub mod Owners

@@ -1,66 +1,24 @@
 // Whether the identifier of a body is on our own list.
 //
 // Identifiers are compared as they are spelled, with U-labels for A-labels (02, ticket [2]). Whoever asks for more than one body spells the
-// list once (`spell_list`), finds where its lines end once (`line_ends`) and asks the outcome (`whose_among`); a good list without two hyphens
+// list once (`spelled_lists::spell_list`), finds where its lines end once (`line_ends::line_ends`) and asks the outcome (`whose_among`); a good list without two hyphens
 // in a row is its own spelling. `whose_spelled` finds the ends itself. A list is taken up to its first bad entry; whether it has one is the
 // caller's to ask first (`listing::check_list`).
 use authserv::Identifier;
 use authserv_rules::Own;
 use listing::Entries;
-use listing::Listed;
 use punycode::Spelling;
 ghost use mathlib.Core.Path.{_≡_};
-ghost use mathlib.Core.List.{[], _∷_, _++_};
-ghost use Prim.Native.Nat.{_≤_};
-ghost use lib.ListN.{length, drop};
-ghost use Rattle.sequences.specs.Stored.{Put};
+ghost use lib.ListN.{drop};
 ghost use Rattle.lexis_rules.specs.Words.{quotedText};
-ghost use Rattle.punycode_rules.specs.Labels.{spelling};
-ghost use Rattle.authserv_rules.specs.OwnList.{longest, ownList};
+ghost use Rattle.authserv_rules.specs.OwnList.{ownList};
 ghost use Rattle.authserv_rules.specs.Identifier.{identifier};
 ghost use Rattle.authserv_rules.specs.Listed.{ownIf, ownOf};
-ghost use Rattle.authserv_rules.specs.Spelled.{spelledList, linesOf, amongSpelled, ownOfSpelled};
+ghost use Rattle.authserv_rules.specs.Spelled.{linesOf, amongSpelled, ownOfSpelled};
 ghost use Rattle.authserv_rules.specs.Ends.{cutAt};
 
 // The most bytes of a text with such a spelling (`spelling-least` in punycode_laws/proofs/Lengths.antt).
 const UNSPELLED: usize = 11 * Spelling::LONGEST + 10;
-
-// Writes an entry as it is compared, and LF.
-fn put_entry(e: &[u8], out: &mut [u8], to: usize) -> usize
-    requires { ⌜ (length (now e) ≤ longest) × (to ≤ 65344) ⌝ }
-    ensures { λ r. ⌜ Put (now (out .entry)) to (spelling (now (e .entry)) ++ (10 ∷ [])) (now (out .exit)) r ⌝ }
-{
-    let mut spelled = [0u8; Spelling::LONGEST];
-    let n = punycode::spell(e, &mut spelled);
-    texts::put_text(&spelled[..n], out, to);
-    texts::put_text(b"\n", out, to + n);
-    n + 1
-}
-
-// Writes a list as it is compared: the spelling of each entry and LF, up to the first bad entry.
-pub fn spell_list(list: &[u8], out: &mut [u8]) -> usize
-    ensures { λ r. ⌜ Put (now (out .entry)) 0 (spelledList (ownList (now (list .entry)) .items)) (now (out .exit)) r ⌝ }
-{
-    let fresh = Entries::fresh();
-    let mut at = fresh.at;
-    let mut count = fresh.count;
-    let mut to: usize = 0;
-    loop {
-        match listing::next_entry(list, Entries { at, count }) {
-            Listed::Entry { start, end } => {
-                to += put_entry(&list[start..end], out, to);
-                at = end + 1;
-                count += 1;
-            }
-            Listed::End => {
-                return to;
-            }
-            Listed::Bad { place: _ } => {
-                return to;
-            }
-        }
-    }
-}
 
 // Whether a text that may have an A-label is spelled as a line. A spelling of more than 1,020 bytes is not.
 fn is_decoded_line(own: &[u8], ends: &[usize], text: &[u8]) -> bool
@@ -137,7 +95,7 @@ pub fn whose_spelled(own: &[u8], body: &[u8]) -> Own
     let mut at: usize = 0;
     loop {
         let mut ends = [0usize; Entries::ENTRIES];
-        let n = list_lines::line_ends(&own[at..], &mut ends);
+        let n = line_ends::line_ends(&own[at..], &mut ends);
         if n <= Entries::ENTRIES {
             return whose_among(&own[at..], &ends[..n], body);
         }
@@ -160,6 +118,6 @@ pub fn whose(list: &[u8], body: &[u8]) -> Own
     ensures { λ r. ⌜ r ≡ ownOf (ownList (now (list .entry)) .items) (identifier (now (body .entry))) ⌝ }
 {
     let mut own = spelled_room::spelled();
-    let n = spell_list(list, &mut own);
+    let n = spelled_lists::spell_list(list, &mut own);
     whose_spelled(&own[..n], body)
 }

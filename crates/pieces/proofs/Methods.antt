@@ -14,7 +14,7 @@ use Rattle.reading.specs.Parsers.{Got, nothing, got, Parser, _>>_, give, when}
 use Rattle.reading.specs.Places.{from}
 use Rattle.reading.proofs.Places.{goes-on, stops, gives, passes, fails}
 use Rattle.resinfo_rules.specs.Table.{table, tabled}
-use Rattle.values.specs.Values.{span}
+use Rattle.sequences.specs.Spans.{span}
 use Rattle.compose.specs.Entries.{Entry, judged, literal, methodEntry}
 use Rattle.compose.specs.Bodies.{piece}
 use Rattle.columns.specs.Internal.{spells, Column, columnSize, ColumnEnd, column, unclosed}

@@ -12,7 +12,7 @@ use Rattle.sequences.proofs.Clips.{clipped-then, clipped-long}
 use Rattle.reading.specs.Parsers.{Got, nothing, got, Parser, _>>_}
 use Rattle.reading.specs.Places.{from}
 use Rattle.reading.proofs.Places.{goes-on, stops}
-use Rattle.values.specs.Values.{span}
+use Rattle.sequences.specs.Spans.{span}
 use Rattle.compose.specs.Entries.{Entry, shown, stands, kindOf, literal, propertyEntry}
 use Rattle.compose.specs.Bodies.{piece}
 use Rattle.pieces.specs.declared.Piece.{Piece}

@@ -10,7 +10,6 @@ use borrow.Author.Tests.{ltb-true, ltb-false, le-leb, lt-leb}
 use lib.Dec.{ltb, leb}
 use lib.ListN.{length, take, drop}
 use lib.Seq.{sets, length-take-le, take-all}
-use Rattle.sequences.specs.Stored.{Put}
 use Rattle.sequences.proofs.Splices.{sets-front}
 use Rattle.reading.specs.Parsers.{nothing}
 use Rattle.reading.proofs.Sequencing.{bind-none}
@@ -24,6 +23,10 @@ use Rattle.body.specs.Report.{refusal, fitted, answer, report}
 use Rattle.body_laws.proofs.Readings.{report-is}
 use Rattle.body.specs.declared.Reported.{Reported}
 use Rattle.body.specs.Answers.{answerOf, leaves}
+use Rattle.first_pass.specs.declared.Copy.{Copy}
+use Rattle.first_pass.specs.declared.Copy.the-variants.{Short, Again, Done}
+use Rattle.first_pass.specs.Copies.{copyOf, copyLeaves}
+use Rattle.first_pass.proofs.Copying.{when-short, when-again, when-done}
 use Rattle.report.specs.Internal.{wholeText, refused, wholeAnswer, Said}
 use Rattle.report.proofs.Fronts.{fronted-text}
 
@@ -68,14 +71,6 @@ pub reading-not : (s : List ℕ) → identifier s ≡ nothing → reading s ≡ 
 unfolding reading head
 reading-not s e = let h : head s ≡ nothing = bind-none identifier _ s e in rw (reading, h)
 
--- the second pass is lent a front of the buffer, and a front of the first one's buffer is copied
-pub front-long : (l : List ℕ) (n : ℕ) → n ≤ length l → n ≡ length (take n l)
-front-long l n h = sym (length-take-le n l h)
-
-pub scratch-long : {x : Reading} {own scratch : List ℕ} {m : Reported} → Said x own scratch m → m .written ≤ length own
-    → m .written ≤ length scratch
-scratch-long k l = omega (arith, l, k .bytes .long)
-
 -- ==== one law for each way out
 
 -- an answer, and what it leaves
@@ -116,31 +111,40 @@ module _ (s old : List ℕ) (small : length s ≤ byteLimit) (own scratch : List
       let w = whole-nine (length old) (reading s) (sym (ap (λ (x : Reported). x .number) (k .answer)) ∙ z) in
       refuses s old m 9 0 (k .answer ∙ w .0) (report-is s (length old) small ∙ w .1)
 
-  pub answer-6 : length old < m .written → (r : Reported) → r ≡ refused 6 (m .written) → Answered s old old r
-  answer-6 l r e =
-      refuses s old r 6 (m .written) e (report-is s (length old) small ∙ (whole-short (length old) (reading s) (rw needed at l) ∙ rw needed))
+  -- all of it is written over the front
+  fills : m .written ≤ length old → (r : Reported) → r ≡ wholeAnswer (reading s) → (new : List ℕ)
+      → new ≡ wholeText (reading s) ++ drop (length (wholeText (reading s))) old → Answered s old new r
+  fills l r a new b =
+      let w = whole-fits (length old) (reading s) (rw needed at l) in
+      let p = report-is s (length old) small in
+      (rw p (a ∙ w .0), rw (p, ← w .1) b)
 
-  module _ (l : m .written ≤ length old) where
-    -- all of it is written over the front
-    fills : (r : Reported) → r ≡ wholeAnswer (reading s) → (new : List ℕ) → new ≡ wholeText (reading s) ++ drop (length (wholeText (reading s))) old
-        → Answered s old new r
-    fills r a new b =
-        let w = whole-fits (length old) (reading s) (rw needed at l) in
-        let p = report-is s (length old) small in
-        (rw p (a ∙ w .0), rw (p, ← w .1) b)
+  -- c is what became of what the first pass wrote, and `new` what the lent buffer holds then
+  module _ (new : List ℕ) (c : Copy) (e : c ≡ copyOf (length scratch) (m .written) (length old)) (v : new ≡ copyLeaves c scratch (m .written) old) where
+    pub answer-6 : c ≡ Short → (r : Reported) → r ≡ refused 6 (m .written) → Answered s old new r
+    answer-6 q r i =
+        let w = when-short scratch (m .written) old new c e v q in
+        rw (w .same)
+        (refuses s old r 6 (m .written) i (report-is s (length old) small ∙ (whole-short (length old) (reading s) (rw needed at (w .more)) ∙ rw needed)))
 
-    -- it is copied from the first pass's buffer
-    pub answer-copied : m .written ≤ length own → (new : List ℕ) (n : ℕ) → Put old 0 (take (m .written) scratch) new n → Answered s old new m
-    answer-copied f new n c =
-        let t : take (m .written) scratch ≡ wholeText (reading s) = rw needed (fronted-text (k .bytes) (rw needed at f)) in
-        let b : new ≡ sets old 0 (wholeText (reading s)) = c .bytes ∙ rw t in
-        fills m (k .answer) new (b ∙ sets-front old (wholeText (reading s)) (rw needed at l))
+    -- it was copied from the first pass's buffer
+    pub answer-copied : c ≡ Done → Answered s old new m
+    answer-copied q =
+        let w = when-done scratch (m .written) old new c e v q in
+        let f : length (wholeText (reading s)) ≤ length own = omega (arith, w .whole, k .bytes .long, needed) in
+        let t : take (m .written) scratch ≡ wholeText (reading s) = rw needed (fronted-text (k .bytes) f) in
+        let b : new ≡ sets old 0 (wholeText (reading s)) = w .text ∙ rw t in
+        fills (w .fits) m (k .answer) new (b ∙ sets-front old (wholeText (reading s)) (omega (arith, w .fits, needed)))
 
     -- it is written by a second pass, which is lent as much as it takes
-    pub answer-written : (out : List ℕ) (r : Reported) → Said (reading s) (take (m .written) old) out r
-        → Answered s old (out ++ drop (m .written) old) r
-    answer-written out r d =
-        let f : length (take (m .written) old) ≡ length (wholeText (reading s)) = length-take-le (m .written) old l ∙ needed in
+    pub again-fits : c ≡ Again → m .written ≤ length new
+    again-fits q = let w = when-again scratch (m .written) old new c e v q in omega (arith, w .fits, ap length (w .same))
+
+    pub answer-written : c ≡ Again → (out : List ℕ) (r : Reported) → Said (reading s) (take (m .written) new) out r
+        → Answered s old (out ++ drop (m .written) new) r
+    answer-written q out r d =
+        let w = when-again scratch (m .written) old new c e v q in
+        let f : length (take (m .written) new) ≡ length (wholeText (reading s)) = length-take-le (m .written) new (again-fits q) ∙ needed in
         let t : out ≡ wholeText (reading s) =
         sym (take-all (length (wholeText (reading s))) out (omega (arith, d .bytes .long, f))) ∙ fronted-text (d .bytes) (omega (arith, f)) in
-        fills r (d .answer) (out ++ drop (m .written) old) (rw (t, needed))
+        fills (w .fits) r (d .answer) (out ++ drop (m .written) new) (rw (t, needed, w .same))

@@ -33,7 +33,7 @@ use Rattle.authserv.specs.Answers.{identifierAt, textOf, versionFrom, versionAt
 use Rattle.authserv.proofs.Identifiers.{identifier-found, identifier-inside}
 use Rattle.authserv.proofs.Versions.{version-got}
 use Rattle.resinfo_rules.specs.Results.{Result}
-use Rattle.values.specs.Values.{span}
+use Rattle.sequences.specs.Spans.{span}
 use Rattle.body.specs.Body.{Head, Reading, malformed, newer, noResult, results, head, resinfos, wordNone, payload, headed, reading}
 use Rattle.body.specs.Report.{line, idLine, versionLine, noneLine, lines}
 use Rattle.body_laws.proofs.Readings.{reading-is, first-one, headed-is}

@@ -14,12 +14,12 @@ use Rattle.reading.proofs.Repeats.{list-none, end-none, further, list-more, end
 use Rattle.lexis_rules.specs.Limits.{byteLimit}
 use Rattle.resinfo_rules.specs.Results.{Result}
 use Rattle.resinfo_rules.specs.Table.{understood}
-use Rattle.result_parts.specs.Parts.{spaced}
+use Rattle.marks.specs.Marks.{spaced}
 use Rattle.body.specs.Body.{resinfo}
 use Rattle.body.specs.Report.{resultLines, lines, ignoredOf}
 use Rattle.body_laws.proofs.Sequence.{resinfo-within}
-use Rattle.report.specs.declared.results.Turn.{Turn}
-use Rattle.report.specs.declared.results.Turn.the-variants as turn
+use Rattle.result_lines.specs.declared.Turn.{Turn}
+use Rattle.result_lines.specs.declared.Turn.the-variants as turn
 use Rattle.report.specs.Internal.{turnLines, TurnRead, TurnPut, ResultsPut}
 use Rattle.body_laws.proofs.Sizes.{resinfo-size}
 use Rattle.report.proofs.Fronts.{Fronting, fronting-start, fronting-step, fronting-over, fronting-end, fronting-done}

@@ -24,9 +24,9 @@ use Rattle.lexis_rules.specs.Bytes.{lower, alike}
 use Rattle.lexis_rules.specs.Pieces.{space, keyword}
 use Rattle.lexis_rules.specs.Words.{keywordText, skip, readKeyword, readWord}
 use Rattle.resinfo_rules.specs.Results.{Result, mark}
-use Rattle.result_parts.specs.Parts.{spaced, marked, markedFrom}
-use Rattle.values.specs.Values.{span}
-use Rattle.result_parts.proofs.Marks.{mark-is, mark-reads, mark-found, keyword-reads, marked-no}
+use Rattle.marks.specs.Marks.{spaced, marked, markedFrom}
+use Rattle.sequences.specs.Spans.{span}
+use Rattle.marks.proofs.Marks.{mark-is, mark-reads, mark-found, keyword-reads, marked-no}
 use Rattle.body.specs.Body.{Reading, malformed, noResult, results, resinfo, resinfos, wordNone, payload}
 use Rattle.body.specs.Report.{line, noneLine, lines}
 use Rattle.body_laws.proofs.Readings.{payload-is}

@@ -3,7 +3,6 @@ use Prim.Native.Nat.{ℕ, _+_}
 use mathlib.Core.Path.{_≡_}
 use mathlib.Core.Bool.{Bool, true, false}
 use mathlib.Core.List.{List, [], _++_}
-use mathlib.Core.Option.{Option, none, some}
 use lib.ListN.{length, take, drop}
 use lib.Seq.{sets}
 use Rattle.sequences.specs.Stored.{Wrote}
@@ -13,56 +12,22 @@ use Rattle.reading.specs.Places.{from, listAt, endAt}
 use Rattle.lexis_rules.specs.declared.Class.the-variants.{Delimiter}
 use Rattle.lexis_rules.specs.Bytes.{inClass}
 use Rattle.authserv_rules.specs.Version.{stated, headerVersion}
-use Rattle.resinfo_rules.specs.Results.{Property, Result, reason, property}
-use Rattle.values.specs.Values.{span}
-use Rattle.result_parts.specs.Parts.{spaced}
-use Rattle.resinfo_rules.specs.Table.{knownTypes, understood}
+use Rattle.resinfo_rules.specs.Results.{Result}
+use Rattle.sequences.specs.Spans.{span}
+use Rattle.marks.specs.Marks.{spaced}
+use Rattle.resinfo_rules.specs.Table.{understood}
 use Rattle.body.specs.Body.{Reading, unreadable, malformed, newer, noResult, results, resinfo, headed}
-use Rattle.body.specs.Report.{idLine, versionLine, noneLine, reasonLine, propertyLines, resultLines, lines, ignoredOf}
+use Rattle.body.specs.Report.{idLine, versionLine, noneLine, resultLines, lines, ignoredOf}
 use Rattle.body.specs.declared.Reported.{Reported}
-use Rattle.report.specs.declared.results.Details.{Details}
-use Rattle.report.specs.declared.results.Stated.{Stated}
-use Rattle.report.specs.declared.results.Turn.{Turn}
-use Rattle.report.specs.declared.results.Turn.the-variants as turn
+use Rattle.result_lines.specs.declared.Turn.{Turn}
+use Rattle.result_lines.specs.declared.Turn.the-variants as turn
 use Rattle.report.specs.declared.results.Results.{Results}
 
--- ==== one result
-
--- what p reads at a place, if it does, and where it ends
-unfoldable pub optionAt : {A : Type 0} → Parser A → List ℕ → ℕ → Option A
-optionAt p s at = elim (from p s at) [ nothing ↦ none | got a n ↦ some a ]
-
-unfoldable pub optionEnd : {A : Type 0} → Parser A → List ℕ → ℕ → ℕ
-optionEnd p s at = elim (from p s at) [ nothing ↦ at | got a n ↦ n ]
-
--- the properties behind a reason, or where it would stand
-abbrev pub propertiesAt : List ℕ → ℕ → List Property
-propertiesAt s at = listAt property s (optionEnd reason s at)
-
--- the lines of the reason and the properties behind a place
-abbrev pub detailLines : List ℕ → ℕ → List ℕ
-detailLines s at = reasonLine (optionAt reason s at) ++ propertyLines (propertiesAt s at)
+-- ==== one result, with the space and the ";" before it
 
 -- the lines of the result behind a place, understood or not
 unfoldable pub turnLines : List ℕ → ℕ → List ℕ
 turnLines s at = elim (from resinfo s at) [ nothing ↦ [] | got r n ↦ resultLines r ]
-
-pub record PropertiesPut (s : List ℕ) (at : ℕ) (old : List ℕ) (to : ℕ) (new : List ℕ) (r : Details) : Type 0 where
-  pub end : r .end ≡ endAt property s at
-  pub gap : r .gap ≡ spaced s (r .end)
-  pub known : r .known ≡ knownTypes (listAt property s at)
-  pub wrote : Wrote old to (propertyLines (listAt property s at)) new (r .next)
-
-pub record ReasonPut (s : List ℕ) (at : ℕ) (old : List ℕ) (to : ℕ) (new : List ℕ) (r : Stated) : Type 0 where
-  pub end : r .end ≡ optionEnd reason s at
-  pub gap : r .gap ≡ spaced s (r .end)
-  pub wrote : Wrote old to (reasonLine (optionAt reason s at)) new (r .next)
-
-pub record DetailsPut (s : List ℕ) (at : ℕ) (old : List ℕ) (to : ℕ) (new : List ℕ) (r : Details) : Type 0 where
-  pub end : r .end ≡ endAt property s (optionEnd reason s at)
-  pub gap : r .gap ≡ spaced s (r .end)
-  pub known : r .known ≡ knownTypes (propertiesAt s at)
-  pub wrote : Wrote old to (detailLines s at) new (r .next)
 
 -- a result that was read, with its lines
 pub record TurnRead (s : List ℕ) (at : ℕ) (old : List ℕ) (to : ℕ) (new : List ℕ) (e g n : ℕ) (u : Bool) : Type 0 where

@@ -13,6 +13,7 @@ use answer_numbers::Number;
 use authserv::Identifier;
 use authserv::Version;
 use body::Reported;
+use first_pass::Copy;
 ghost use mathlib.Core.Path.{_≡_};
 ghost use mathlib.Core.List.{[]};
 ghost use Prim.Native.Nat.{_≤_, _^_};
@@ -21,7 +22,7 @@ ghost use Rattle.sequences.specs.Stored.{cap};
 ghost use Rattle.reading.specs.Texts.{bytes};
 ghost use Rattle.lexis_rules.specs.Limits.{byteLimit};
 ghost use Rattle.authserv.specs.Answers.{identifierAt};
-ghost use Rattle.result_parts.specs.Parts.{spaced};
+ghost use Rattle.marks.specs.Marks.{spaced};
 ghost use Rattle.body.specs.Body.{wordNone, payload, headed, reading};
 ghost use Rattle.body.specs.Report.{report};
 ghost use Rattle.body.specs.Answers.{answerOf, leaves};
@@ -45,7 +46,7 @@ fn says_none(s: &[u8], at: usize, gap: usize) -> bool
     requires { ⌜ gap ≡ spaced (now s) at ⌝ }
     ensures { λ r. ⌜ r ≡ succeeds wordNone (drop at (now (s .entry))) ⌝ }
 {
-    let a = result_parts::mark_from(s, at, gap, b';');
+    let a = marks::mark_from(s, at, gap, b';');
     if a == at {
         return false;
     }
@@ -155,14 +156,11 @@ fn put_measured(s: &[u8], a: usize, e: usize, quoted: bool, out: &mut [u8]) -> R
     if first.number == Number::MALFORMED {
         return first;
     }
-    if first.written > out.len() {
-        return refuse(Number::TOO_SHORT, first.written);
+    match first_pass::copy_first(&scratch, first.written, out) {
+        Copy::Short => refuse(Number::TOO_SHORT, first.written),
+        Copy::Again => put_body(s, a, e, quoted, &mut out[..first.written]),
+        Copy::Done => first,
     }
-    if first.written > scratch.len() {
-        return put_body(s, a, e, quoted, &mut out[..first.written]);
-    }
-    texts::put_text(&scratch[..first.written], out, 0);
-    first
 }
 
 // Reports a body into a lent buffer.

@@ -17,26 +17,14 @@ use Rattle.authserv.specs.Answers.{textOf}
 use Rattle.values.specs.declared.Value as place
 use Rattle.values.specs.declared.Value.the-variants as at
 use Rattle.resinfo_rules.specs.Results.{Value}
-use Rattle.values.specs.Values.{span, valueOf}
+use Rattle.values.specs.Values.{valueOf}
+use Rattle.sequences.specs.Spans.{span}
+use Rattle.sequences.proofs.Spans.{span-none}
 use Rattle.body.specs.Report.{escape, line, idLine, versionLine, noneLine, reasonLine, letterOf, propertyLine}
 use Rattle.report_lines.specs.declared.Parts.{Parts}
 use Rattle.report_lines.specs.Lines.{valueColumns}
 use Rattle.report_lines.specs.Internal.{partsOf, domainText}
 use Rattle.escaping.proofs.Escapes.{clipped-two, clipped-three, clipped-four, escape-none, escape-sign, escape-append}
-
--- ==== the bytes from a place up to another, as far as they stand inside
-
-module _ (s : List ℕ) (a e : ℕ) where
-  pub span-none : e ≤ a → [] ≡ span s a e
-  span-none h = let z : e - a ≡ 0 = omega arith in rw z
-
-  pub span-past : length s ≤ a → [] ≡ span s a e
-  span-past h = rw (drop-of-length-le s h) (sym (take-all (e - a) [] (omega arith)))
-
-  pub span-rest : length s < e → take (length s - a) (drop a s) ≡ span s a e
-  span-rest h =
-      take-all (length s - a) (drop a s) (omega (arith, length-drop a s))
-      ∙ sym (take-all (e - a) (drop a s) (omega (arith, length-drop a s)))
 
 -- ==== the text of a value, quoted or not
 

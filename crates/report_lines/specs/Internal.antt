@@ -5,7 +5,7 @@ use mathlib.Core.Bool.{Bool, true, false}
 use mathlib.Core.List.{List, [], _∷_}
 use Rattle.values.specs.declared.Value as place
 use Rattle.values.specs.declared.Value.the-variants as at
-use Rattle.values.specs.Values.{span}
+use Rattle.sequences.specs.Spans.{span}
 use Rattle.report_lines.specs.declared.Parts.{Parts}
 
 -- the parts of a property value: a mailbox is a text and then "@" and its domain, an at-domain is the same with no text

@@ -9,7 +9,8 @@ use Rattle.lexis_rules.specs.Words.{keywordText}
 use Rattle.authserv.specs.Answers.{textOf}
 use Rattle.values.specs.declared.Value as place
 use Rattle.resinfo_rules.specs.Results.{Value}
-use Rattle.values.specs.Values.{span, valueOf}
+use Rattle.values.specs.Values.{valueOf}
+use Rattle.sequences.specs.Spans.{span}
 use Rattle.body.specs.Report.{escape, line, reasonLine, letterOf, propertyLine}
 
 -- the line of a method from a up to e with its result from b up to f

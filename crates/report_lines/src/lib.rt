@@ -11,29 +11,14 @@ ghost use mathlib.Core.List.{_∷_, map};
 ghost use Rattle.sequences.specs.Stored.{Clipped};
 ghost use Rattle.lexis_rules.specs.Bytes.{lower};
 ghost use Rattle.authserv.specs.Answers.{textOf};
-ghost use Rattle.values.specs.Values.{span, valueOf};
+ghost use Rattle.values.specs.Values.{valueOf};
+ghost use Rattle.sequences.specs.Spans.{span};
 ghost use Rattle.body.specs.Report.{escape, idLine, versionLine, noneLine};
 ghost use Rattle.report_lines.specs.Internal.{partsOf, domainText};
 ghost use Rattle.report_lines.specs.Lines.{valueColumns, methodText, reasonText, propertyText};
 
 // The largest place: no buffer reaches it.
 const LARGEST: usize = 18446744073709551615;
-
-// The bytes from a up to e, as far as they stand inside.
-fn part(s: &[u8], a: usize, e: usize) -> &[u8]
-    ensures { λ r. ⌜ now r ≡ span (now (s .entry)) a e ⌝ }
-{
-    if e <= a {
-        return &s[..0];
-    }
-    if e <= s.len() {
-        return &s[a..e];
-    }
-    if a < s.len() {
-        return &s[a..];
-    }
-    &s[..0]
-}
 
 // The text of a value from a up to e, quoted or not.
 fn put_value_text(s: &[u8], a: usize, e: usize, quoted: bool, out: &mut [u8], to: usize) -> usize
@@ -42,7 +27,7 @@ fn put_value_text(s: &[u8], a: usize, e: usize, quoted: bool, out: &mut [u8], to
     if quoted {
         return escaping::put_quoted(s, a, out, to);
     }
-    escaping::put_escaped(part(s, a, e), out, to)
+    escaping::put_escaped(spans::part(s, a, e), out, to)
 }
 
 // A tab and the keyword from a up to e in lower case.
@@ -50,7 +35,7 @@ fn put_keyword(s: &[u8], a: usize, e: usize, out: &mut [u8], to: usize) -> usize
     ensures { λ r. ⌜ Clipped (now (out .entry)) to (9 ∷ map lower (span (now (s .entry)) a e)) (now (out .exit)) r ⌝ }
 {
     let n = texts::put_byte(b'\t', out, to);
-    let k = texts::put_lower(part(s, a, e), out, n);
+    let k = texts::put_lower(spans::part(s, a, e), out, n);
     if k < LARGEST - n {
         return n + k;
     }
@@ -120,7 +105,7 @@ fn put_domain(s: &[u8], signed: bool, sign: usize, e: usize, out: &mut [u8], to:
     if signed {
         let n = texts::put_byte(b'@', out, to);
         if sign < e {
-            return escaping::put_escaped(part(s, sign + 1, e), out, n);
+            return escaping::put_escaped(spans::part(s, sign + 1, e), out, n);
         }
         return n;
     }

@@ -68,7 +68,7 @@ fn report_into(body: &[u8], out: &mut [u8]) {
 fn run(file: i32, room: usize) {
     let mut body = [0u8; MOST];
     let n = io::read_full(file, &mut body);
-    let mut out = sampling::untouched();
+    let mut out = sample_buffers::untouched();
     let lent = sampling::front(&out, room);
     report_into(&body[..n], &mut out[..lent]);
 }

@@ -7,9 +7,9 @@ use mathlib.Core.List.{List}
 use borrow.Author.Tests.{lt-ltb, le-ltb, ltb-false}
 use lib.Dec.{ltb}
 use lib.ListN.{length, take}
-use lib.Seq.{sets}
+use lib.Seq.{sets, length-sets}
 use Rattle.sequences.specs.Stored.{Put}
-use Rattle.sequences.proofs.Splices.{sets-front, put-front, put-long}
+use Rattle.sequences.proofs.Splices.{sets-front, put-front}
 use Rattle.reading.specs.Parsers.{Got}
 use Rattle.lexis_rules.specs.Limits.{byteLimit}
 use Rattle.listing.specs.declared.Checked.the-variants.{Good, Bad}
@@ -28,7 +28,11 @@ use Rattle.authserv_laws.proofs.OwnLists.{list-length}
 use Rattle.reports_rules.specs.declared.BlockReported.{BlockReported}
 use Rattle.reports_rules.specs.Reports.{Answer, refuse, fitted, orRefusal, reportFields, reports}
 use Rattle.reports_rules.specs.Answers.{answerOf, leaves}
-use Rattle.reports_rules.proofs.Whose.{same-reported}
+use Rattle.reports_laws.proofs.Whose.{same-reported}
+use Rattle.first_pass.specs.declared.Copy.{Copy}
+use Rattle.first_pass.specs.declared.Copy.the-variants.{Short, Again, Done}
+use Rattle.first_pass.specs.Copies.{copyOf, copyLeaves}
+use Rattle.first_pass.proofs.Copying.{when-short, when-again, when-done}
 use Rattle.reports.specs.Internal.{textBefore, FieldsPut}
 
 -- an answer, and what it leaves
@@ -45,13 +49,19 @@ meant a b old new r e h = (h .0 ∙ ap answerOf e, h .1 ∙ ap (λ (x : Answer).
 -- ==== behind the list: m is what the first pass answers, which runs on a buffer of its own
 
 -- a text that was written to a buffer with room for all of it, copied to another one
-pub copied : (s : List ℕ) (whose : Got (List ℕ) → Own) (old first new : List ℕ) (m : BlockReported) → FieldsPut s whose first new m → m .written ≤ length first
-    → (out : List ℕ) (n : ℕ) → Put old 0 (take (m .written) new) out n → FieldsPut s whose old out m
-copied s whose old first new m k h out n p =
+copied : (s : List ℕ) (whose : Got (List ℕ) → Own) (old first new : List ℕ) (m : BlockReported) → FieldsPut s whose first new m → m .written ≤ length first
+    → (out : List ℕ) → out ≡ sets old 0 (take (m .written) new) → FieldsPut s whose old out m
+copied s whose old first new m k h out p =
     let text = textBefore s whose in
     let f : length text ≤ length first = omega (arith, h, k .written) in
     let t : take (m .written) new ≡ text = put-front {old = first} {text = text} (record { count = k .written; bytes = k .bytes f }) h in
-    record { number = k .number; place = k .place; written = k .written; long = put-long p; bytes = λ l. p .bytes ∙ ap (sets old 0) t }
+    record {
+      number = k .number;
+      place = k .place;
+      written = k .written;
+      long = ap length p ∙ length-sets old 0 (take (m .written) new);
+      bytes = λ l. p ∙ ap (sets old 0) t;
+    }
 
 module _ (s : List ℕ) (whose : Got (List ℕ) → Own) (old : List ℕ) (r m : BlockReported) (first new : List ℕ) (k : FieldsPut s whose first new m) where
   pub answer-2-4 : (m .number ≡ 0 → ⊥) → r ≡ record { number = m .number; place = m .place; written = 0 } → Answered (reportFields s whose (length old)) old old r
@@ -68,15 +78,10 @@ module _ (s : List ℕ) (whose : Got (List ℕ) → Own) (old : List ℕ) (r m :
     sound : fields s .number ≡ 0
     sound = sym (k .number) ∙ z
 
-    pub answer-6 : length old < m .written → r ≡ record { number = 6; place = m .written; written = 0 } → Answered (reportFields s whose (length old)) old old r
+    -- it is written over the front
+    told : m .written ≤ length old → (r : BlockReported) (out : List ℕ) → FieldsPut s whose old out r → Answered (reportFields s whose (length old)) old out r
     unfolding reportFields fitted
-    answer-6 l e =
-        let t : ltb (length old) (length (textBefore s whose)) ≡ true = lt-ltb _ _ (rw (k .written) at l) in
-        refused (reportFields s whose (length old)) old r 6 (m .written) e (rw (reportFields, orRefusal, sound, fitted, t, k .written))
-
-    pub answer-0 : m .written ≤ length old → (out : List ℕ) → FieldsPut s whose old out r → Answered (reportFields s whose (length old)) old out r
-    unfolding reportFields fitted
-    answer-0 l out d =
+    told l r out d =
         let fits : length (textBefore s whose) ≤ length old = rw (k .written) at l in
         let t : ltb (length old) (length (textBefore s whose)) ≡ false = le-ltb _ _ fits in
         let is : reportFields s whose (length old) ≡ record { number = 0; place = 0; written = textBefore s whose } = rw (reportFields, orRefusal, sound, fitted, t) in
@@ -84,6 +89,25 @@ module _ (s : List ℕ) (whose : Got (List ℕ) → Own) (old : List ℕ) (r m :
       where
         same : (r : BlockReported) (n p w : ℕ) → r .number ≡ n → r .place ≡ p → r .written ≡ w → r ≡ record { number = n; place = p; written = w }
         same r n p w e₀ e₁ e₂ = rw (← e₀, ← e₁, ← e₂)
+
+    -- c is what became of what the first pass wrote, and `lent` what the lent buffer holds then
+    module _ (lent : List ℕ) (c : Copy) (i : c ≡ copyOf (length new) (m .written) (length old)) (v : lent ≡ copyLeaves c new (m .written) old) where
+      pub answer-6 : c ≡ Short → r ≡ record { number = 6; place = m .written; written = 0 } → Answered (reportFields s whose (length old)) old lent r
+      unfolding reportFields fitted
+      answer-6 q e =
+          let w = when-short new (m .written) old lent c i v q in
+          let t : ltb (length old) (length (textBefore s whose)) ≡ true = lt-ltb _ _ (rw (k .written) at (w .more)) in
+          rw (w .same) (refused (reportFields s whose (length old)) old r 6 (m .written) e (rw (reportFields, orRefusal, sound, fitted, t, k .written)))
+
+      -- it was copied from the first pass's buffer
+      pub answer-copied : c ≡ Done → Answered (reportFields s whose (length old)) old lent m
+      answer-copied q =
+          let w = when-done new (m .written) old lent c i v q in
+          told (w .fits) m lent (copied s whose old first new m k (omega (arith, w .whole, k .long)) lent (w .text))
+
+      -- it is written by a second pass
+      pub answer-written : c ≡ Again → (out : List ℕ) → FieldsPut s whose lent out r → Answered (reportFields s whose (length old)) old out r
+      answer-written q out d = let w = when-again new (m .written) old lent c i v q in told (w .fits) r out (rw (w .same) at d)
 
 -- by the list as it was spelled into a buffer that holds the longest
 module _ (list first own : List ℕ) (n : ℕ) (w : Put first 0 (spelledList (ownList list .items)) own n) (k : 65344 ≡ length first) where

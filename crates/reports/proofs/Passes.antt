@@ -13,7 +13,7 @@ use Rattle.block.specs.Steps.{nextFrom}
 use Rattle.block.proofs.Steps.{Rest, step-field, step-end, step-refused, part-name, part-body}
 use Rattle.authserv_rules.specs.declared.Own.{Own}
 use Rattle.reports_rules.specs.Reports.{addition, additions}
-use Rattle.reports_rules.proofs.Sizes.{addition-size}
+use Rattle.reports_laws.proofs.Sizes.{addition-size}
 use Rattle.field_reports.specs.Addends.{fieldAddend, placeAfter, bufferAfter}
 use Rattle.reports.specs.Internal.{textBefore, FieldsPut}
 use Rattle.reports.proofs.Rooms.{addend-put, Filling, filling-start, filling-step, filling-done}

@@ -15,6 +15,7 @@
 use answer_numbers::Number;
 use block::Next;
 use block::Walk;
+use first_pass::Copy;
 use listing::Checked;
 use reports_rules::BlockReported;
 ghost use mathlib.Core.Path.{_≡_};
@@ -96,14 +97,11 @@ fn reports_by(s: &[u8], own: &[u8], out: &mut [u8]) -> BlockReported
     if m.number != Number::DONE {
         return refuse(m.number, m.place);
     }
-    if m.written > out.len() {
-        return refuse(Number::TOO_SHORT, m.written);
+    match first_pass::copy_first(&first, m.written, out) {
+        Copy::Short => refuse(Number::TOO_SHORT, m.written),
+        Copy::Again => put_fields(s, own, out),
+        Copy::Done => m,
     }
-    if m.written > first.len() {
-        return put_fields(s, own, out);
-    }
-    texts::put_text(&first[..m.written], out, 0);
-    m
 }
 
 // Reports by a list that has to be spelled first.
@@ -113,7 +111,7 @@ fn reports_spelled(s: &[u8], list: &[u8], out: &mut [u8]) -> BlockReported
     ensures { λ _. ⌜ now (out .exit) ≡ leaves (reportFields (now (s .entry)) (ownOf (ownList (now (list .entry)) .items)) (length (now (out .entry)))) (now (out .entry)) ⌝ }
 {
     let mut own = spelled_room::spelled();
-    let n = ownlist::spell_list(list, &mut own);
+    let n = spelled_lists::spell_list(list, &mut own);
     reports_by(s, &own[..n], out)
 }
 

@@ -8,22 +8,23 @@ use lib.ListN.{drop}
 use Rattle.reading.specs.Places.{from}
 use Rattle.resinfo_rules.specs.Results.{methodspec, reason, property}
 use Rattle.resinfo.specs.declared.Step.the-variants as step
-use Rattle.result_parts.specs.Parts.{methodAt, methodGot, reasonAt, reasonGot, labelAt, labelGot, names}
+use Rattle.methodspecs.specs.Methods.{methodAt, methodGot}
+use Rattle.result_parts.specs.Parts.{reasonAt, reasonGot, labelAt, labelGot, names}
 use Rattle.resinfo.specs.Steps.{closes, stepAt, propertyGot}
-use Rattle.result_parts.proofs.Methods as methods
+use Rattle.methodspecs.proofs.Methods as methods
 use Rattle.result_parts.proofs.Reasons as reasons
 use Rattle.result_parts.proofs.Labels as labels
 use Rattle.resinfo.proofs.Steps as steps
 
--- `parts::method_at`: a method, its version and its result
+-- `methodspecs::method_at`: a method, its version and its result
 pub method-got : (s : List ℕ) (at : ℕ) → methodGot s (methodAt s at) ≡ from methodspec s at
 method-got = methods.method-got
 
--- `parts::reason_from`: a reason
+-- `result_parts::reason_from`: a reason
 pub reason-got : (s : List ℕ) (at : ℕ) → reasonGot s (reasonAt s at) ≡ from reason s at
 reason-got = reasons.reason-got
 
--- `parts::label_from`: ptype and property
+-- `result_parts::label_from`: ptype and property
 pub label-got : (s : List ℕ) (at : ℕ) → labelGot s (labelAt s at) ≡ from names s at
 label-got = labels.label-got
 

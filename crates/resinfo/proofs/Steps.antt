@@ -21,8 +21,10 @@ use Rattle.result_parts.specs.declared.Label.the-variants as label
 use Rattle.values.specs.declared.Found.{Found}
 use Rattle.values.specs.declared.Found.the-variants as found
 use Rattle.resinfo_rules.specs.Results.{Property, property, propertyValue}
-use Rattle.result_parts.specs.Parts.{spaced, labelFrom, labelAt}
-use Rattle.values.specs.Values.{span, valueOf, valueAt, valueGot}
+use Rattle.marks.specs.Marks.{spaced}
+use Rattle.result_parts.specs.Parts.{labelFrom, labelAt}
+use Rattle.values.specs.Values.{valueOf, valueAt, valueGot}
+use Rattle.sequences.specs.Spans.{span}
 use Rattle.resinfo.specs.Steps.{isEnd, closes, endOf, propertyOf, stepOf, stepFrom, stepAt, propertyGot}
 use Rattle.result_parts.proofs.Labels.{property-behind, property-not}
 use Rattle.values.proofs.ValueGot.{value-got}

@@ -16,8 +16,10 @@ use Rattle.result_parts.specs.declared.Label.the-variants as label
 use Rattle.values.specs.declared.Found.{Found}
 use Rattle.values.specs.declared.Found.the-variants as found
 use Rattle.resinfo_rules.specs.Results.{Property}
-use Rattle.result_parts.specs.Parts.{spaced, labelFrom}
-use Rattle.values.specs.Values.{span, valueOf, valueAt}
+use Rattle.marks.specs.Marks.{spaced}
+use Rattle.result_parts.specs.Parts.{labelFrom}
+use Rattle.values.specs.Values.{valueOf, valueAt}
+use Rattle.sequences.specs.Spans.{span}
 
 -- ";" or the end comes next
 unfoldable pub isEnd : List ℕ → Bool

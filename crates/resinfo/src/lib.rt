@@ -1,5 +1,5 @@
-// One result of a field body (RFC 8601: resinfo): its steps, read at places. Its grammar is in resinfo_rules, its parts in
-// result_parts, property values in values, the table in methods.
+// One result of a field body (RFC 8601: resinfo): its steps, read at places. Its grammar is in resinfo_rules, its method in
+// methodspecs, its reason and the labels of its properties in result_parts, property values in values, the table in methods.
 use result_parts::Label;
 use values::Found;
 use values::Value;

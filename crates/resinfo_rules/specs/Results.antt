@@ -184,12 +184,17 @@ property = do
   v ← propertyValue
   give (record { ptype = t; property = p; value = v })
 
--- A result is ";" method ..; then optionally .. reason ..; then any number of properties
-unfoldable pub result : Parser Result
-result = do
-  byte (code ";")
-  skip
+-- behind its ";": method ..; then optionally .. reason ..; then any number of properties
+abbrev pub unmarked : Parser Result
+unmarked = do
   m ← methodspec
   r ← optional reason
   ps ← several property 0
   give (record { methodspec = m; reason = r; properties = ps })
+
+-- A result is ";" method ..
+unfoldable pub result : Parser Result
+result = do
+  byte (code ";")
+  skip
+  unmarked

@@ -14,9 +14,10 @@ use Rattle.lexis_rules.specs.Words.{keywordText, gap, readKeyword}
 use Rattle.result_parts.specs.declared.Label.{Label}
 use Rattle.result_parts.specs.declared.Label.the-variants.{Read, Missing}
 use Rattle.resinfo_rules.specs.Results.{Property, mark, propertyValue, property}
-use Rattle.result_parts.specs.Parts.{marked, behind, Names, names, namesAt, labelFrom, labelAt, labelGot}
-use Rattle.values.specs.Values.{span}
-use Rattle.result_parts.proofs.Marks.{past-none, past-some, behind-none, behind-some, through, gap-reads, mark-reads, keyword-reads}
+use Rattle.marks.specs.Marks.{marked, behind}
+use Rattle.result_parts.specs.Parts.{Names, names, namesAt, labelFrom, labelAt, labelGot}
+use Rattle.sequences.specs.Spans.{span}
+use Rattle.marks.proofs.Marks.{past-none, past-some, behind-none, behind-some, through, gap-reads, mark-reads, keyword-reads}
 
 -- ==== by the tests of the code
 

@@ -1,5 +1,4 @@
--- The parts of a result at worked examples, computed. Assumes nothing.
-use Prim.Native.Char.{code}
+-- Reasons and labels at worked examples, computed. Assumes nothing.
 use Prim.Native.Nat.{ℕ}
 use mathlib.Core.Path.{refl}
 use mathlib.Core.Bool.{true, false}
@@ -7,92 +6,17 @@ use mathlib.Core.List.{List, [], _∷_}
 use Rattle.reading.specs.Texts.{bytes}
 use Rattle.reading.specs.Parsers.{Got, nothing, got}
 use Rattle.reading.proofs.Cases.{Case, case, Says}
-use Rattle.lexis_rules.specs.declared.VersionNumber.{VersionNumber}
-use Rattle.lexis_rules.specs.declared.VersionNumber.the-variants.{Exact, Large}
 use Rattle.lexis_rules.specs.Answers.{valueAt}
-use Rattle.result_parts.specs.declared.Method.the-variants as method
 use Rattle.result_parts.specs.declared.Reason.the-variants.{Stated, Absent}
 use Rattle.result_parts.specs.declared.Label.the-variants as label
-use Rattle.resinfo_rules.specs.Results.{Methodspec, methodspec, reason}
-use Rattle.result_parts.specs.Parts.{marked, markedFrom, past, methodVersionAt, resultAt, methodAt, methodGot, reasonFrom, reasonAt, reasonGot, Names, names, namesAt, labelFrom, labelAt, labelGot}
+use Rattle.resinfo_rules.specs.Results.{reason}
+use Rattle.marks.specs.Marks.{marked, past}
+use Rattle.result_parts.specs.Parts.{reasonFrom, reasonAt, reasonGot, Names, names, namesAt, labelFrom, labelAt, labelGot}
 use Rattle.resinfo_rules.proofs.Opened as definitions
 
-unfoldable pub opened : Unit {0}
-unfolding definitions.opened valueAt marked markedFrom past methodVersionAt resultAt methodAt reasonFrom names namesAt labelFrom
+unfoldable opened : Unit {0}
+unfolding definitions.opened valueAt marked past reasonFrom names namesAt labelFrom
 opened = tt
-
-marks :
-    Says (marked (code "="))
-    (case (bytes "=") 1
-    ∷ case (bytes " (c) =\t\r\n x") 10
-    ∷ case (bytes " (=) .") 0
-    ∷ case (bytes " ") 0
-    ∷ case (bytes "(c") 0
-    ∷ case [] 0
-    ∷ [])
-unfolding opened
-marks = refl
-
--- behind a part that ends at 0, asked at 1
-marksAsked :
-    Says (λ s. markedFrom (code "=") s 0 1)
-    (case (bytes " = x") 3
-    ∷ case (bytes "a= x") 3
-    ∷ case (bytes "  = x") 0
-    ∷ case (bytes "=") 0
-    ∷ case [] 0
-    ∷ [])
-unfolding opened
-marksAsked = refl
-
--- ==== method, version and result
-
--- method, the number of its version, result, and how many bytes they take
-abbrev tells : List ℕ → VersionNumber → List ℕ → ℕ → Got Methodspec
-tells m v r n = got (record { method = m; version = v; result = r }) n
-
-abbrev methodTexts : List (Case (Got Methodspec))
-methodTexts =
-    case (bytes "dkim=pass") (tells (bytes "dkim") (Exact 1) (bytes "pass") 9)
-    ∷ case (bytes "dkim/1=pass") (tells (bytes "dkim") (Exact 1) (bytes "pass") 11)
-    ∷ case (bytes "dkim/2=pass") (tells (bytes "dkim") (Exact 2) (bytes "pass") 11)
-    ∷ case (bytes "dkim/001=pass") (tells (bytes "dkim") (Exact 1) (bytes "pass") 13)
-    ∷ case (bytes "dkim/11=pass") (tells (bytes "dkim") (Exact 11) (bytes "pass") 12)
-    ∷ case (bytes "dkim/10=pass") (tells (bytes "dkim") (Exact 10) (bytes "pass") 12)
-    ∷ case (bytes "dkim/0=pass") (tells (bytes "dkim") (Exact 0) (bytes "pass") 11)
-    ∷ case (bytes "dkim/0999999=pass") (tells (bytes "dkim") (Exact 999999) (bytes "pass") 17)
-    ∷ case (bytes "dkim/1000000=pass") (tells (bytes "dkim") Large (bytes "pass") 17)
-    ∷ case (bytes "SPF (c) / 1 = (d)\tPass x") (tells (bytes "spf") (Exact 1) (bytes "pass") 22)
-    ∷ case (bytes "none=pass") (tells (bytes "none") (Exact 1) (bytes "pass") 9)
-    ∷ case (bytes "dkim/=pass") nothing
-    ∷ case (bytes "dkim/x=pass") nothing
-    ∷ case (bytes "dkim/1x=pass") nothing
-    ∷ case (bytes "dkim/1/1=pass") nothing
-    ∷ case (bytes "spf=pass-") nothing
-    ∷ case (bytes "spf=") nothing
-    ∷ case (bytes "spf") nothing
-    ∷ case (bytes " spf=pass") nothing
-    ∷ case (bytes "=pass") nothing
-    ∷ case [] nothing
-    ∷ []
-
--- the same table from the parser and from the places
-parsed : Says methodspec methodTexts
-unfolding opened
-parsed = refl
-
-found : Says (λ s. methodGot s (methodAt s 0)) methodTexts
-unfolding opened
-found = refl
-
-places :
-    Says (λ s. methodAt s 2)
-    (case (bytes "; dkim = pass") (method.Read 2 6 (Exact 1) 9 13)
-    ∷ case (bytes "; dkim/2=fail") (method.Read 2 6 (Exact 2) 9 13)
-    ∷ case (bytes ";") method.Missing
-    ∷ [])
-unfolding opened
-places = refl
 
 -- ==== the reason
 

@@ -1,10 +1,10 @@
 -- The reason, by the tests that the code makes in turn; and what the code finds is what the parser yields. Assumes nothing.
-use Prim.Native.Nat.{ℕ, zero, suc, _+_, _-_, _≤_}
+use Prim.Native.Nat.{ℕ, zero, suc, _+_, _-_}
 use native.Mathlib.Omega.{arith}
 use mathlib.Core.Path.{_≡_, refl, sym, ap, _∙_}
 use mathlib.Core.Bool.{Bool, true, false}
 use mathlib.Core.List.{List}
-use lib.ListN.{length, getD, take, drop, length-drop}
+use lib.ListN.{getD, take, drop}
 use Rattle.reading.specs.Texts.{bytes, within, same}
 use Rattle.reading.specs.Parsers.{Got, nothing, got, when}
 use Rattle.reading.specs.Places.{from}
@@ -16,15 +16,15 @@ use Rattle.lexis_rules.specs.Bytes.{lower, alike}
 use Rattle.lexis_rules.specs.Pieces.{space, keyword}
 use Rattle.lexis_rules.specs.Words.{keywordText, gap, readKeyword, readWord}
 use Rattle.lexis_rules.specs.Answers.{valueAt, valueGot}
-use Rattle.lexis_laws.proofs.Pieces.{keyword-fits}
 use Rattle.lexis_laws.proofs.Values.{value-got}
 use Rattle.result_parts.specs.declared.Reason.{Reason}
 use Rattle.result_parts.specs.declared.Reason.the-variants.{Absent}
 use Rattle.resinfo_rules.specs.Results.{mark, reason}
 use Rattle.resinfo_laws.proofs.Keywords.{alike-first}
-use Rattle.result_parts.specs.Parts.{marked, reasonWord, behind, statedAs, reasonFrom, reasonAt, reasonGot}
-use Rattle.values.specs.Values.{span}
-use Rattle.result_parts.proofs.Marks.{past-none, past-some, behind-none, behind-some, Reads, through, gap-reads, mark-reads, keyword-reads}
+use Rattle.marks.specs.Marks.{marked, behind}
+use Rattle.result_parts.specs.Parts.{reasonWord, statedAs, reasonFrom, reasonAt, reasonGot}
+use Rattle.sequences.specs.Spans.{span}
+use Rattle.marks.proofs.Marks.{past-none, past-some, behind-none, behind-some, Reads, through, gap-reads, mark-reads, keyword-reads}
 
 -- ==== the word, by the tests of the code
 
@@ -43,10 +43,6 @@ module _ (s : List ℕ) (at e : ℕ) (q : e ≡ at + keyword (drop at s)) where
       go : (t : Bool) → alike (take (keyword (drop at s)) (drop at s)) (bytes "reason") ≡ t → at ≡ at + reasonWord (drop at s)
       go true h = omega (arith, passing-yes (λ k. alike k (bytes "reason")) keyword (drop at s) h)
       go false h = omega (arith, passing-no (λ k. alike k (bytes "reason")) keyword (drop at s) h)
-
-  -- a keyword lies inside
-  pub word-inside : (e ≡ at → ⊥) → e ≤ length s
-  word-inside ne = omega (arith, keyword-fits (drop at s), length-drop at s)
 
   module _ (r : Bool) (h : r ≡ alike (span s at e) (bytes "reason")) where
     word-tested : alike (take (keyword (drop at s)) (drop at s)) (bytes "reason") ≡ r

@@ -1,5 +1,5 @@
--- The entries of the table: which byte the last arm is for, and that a binary digit says whether a byte is of a class. Assumes nothing.
-use Prim.Native.Nat.{ℕ, zero, suc, _+_, _-_, _*_, _/_, _%_, _^_, _≤_, _<_, zero-le, suc-le-suc}
+-- The entries of the table: a binary digit of one says whether its byte is of a class, and so where a run ends. Assumes nothing.
+use Prim.Native.Nat.{ℕ, zero, suc, _+_, _-_, _*_, _/_, _%_, _^_, _≤_, _<_}
 use native.Mathlib.Nat.{zero-add, zero-mul, one-mul, pow-suc, mod-lt}
 use native.Mathlib.Omega.{arith}
 use mathlib.Core.Path.{_≡_, refl, sym, ap, _∙_}
@@ -10,7 +10,6 @@ use lib.Dec.{eqb}
 use lib.ListN.{length, getD, drop}
 use lib.Pow.{pow-pos}
 use borrow.Author.Tests.{ne-eqb}
-use types.Run.{OneOf}
 use Rattle.reading.specs.Readers.{run}
 use Rattle.reading.specs.Places.{Reaches}
 use Rattle.reading.proofs.Loops.{run-off, run-out}
@@ -18,19 +17,8 @@ use Rattle.lexis_rules.specs.declared.Class.{Class}
 use Rattle.lexis_rules.specs.declared.Class.the-variants.{Blank, Opening, Zero, Digit, Keyword, Token, Quoted, Comment, Escaped, Name, Visible, Delimiter, Tag}
 use Rattle.lexis_rules.specs.Bytes.{inClass}
 use Rattle.classes.proofs.Bytes.{bit-at}
-use Rattle.runs.specs.Internal.{order, placeOf, digitOf, entryOf, hasDigit}
-
--- a byte that is none of the first n
-abbrev pub Past : ℕ → ℕ → Type 0
-Past zero b = Unit
-Past (suc n) b = Past n b × (OneOf (n ∷ []) b → ⊥)
-
-pub past : (n b : ℕ) → Past n b → n ≤ b
-past zero b h = zero-le
-past (suc n) b h = let l = past n b (h .0) in omega (arith, l, h .1)
-
-pub last-byte : (b : ℕ) → 255 ≤ b → b < 256 → b ≡ 255
-last-byte b l h = omega arith
+use Rattle.class_table.specs.Table.{order, entryOf}
+use Rattle.runs.specs.Internal.{placeOf, digitOf, hasDigit}
 
 -- each class stands at its place
 placed : (c : Class) → getD order (placeOf c) Tag ≡ c

@@ -2,32 +2,15 @@
 //
 // `adler` and `changed` tell of bytes. `shown` writes them as visible text, `digits` the values of the digits in front of a text, each into a
 // lent buffer: as much is stored as there is room for, and the answer says how many bytes that is. `number_of` reads a number, cut at the most
-// that is asked for. `front` cuts a number of bytes to those that there are. Each takes any bytes and any numbers. `zeros` and `untouched` are the
-// buffers of a program: an array that a call returns costs its check nothing, one of its own costs by its length.
+// that is asked for. `front` cuts a number of bytes to those that there are. Each takes any bytes and any numbers.
 ghost use mathlib.Core.Path.{_≡_};
 ghost use mathlib.Core.Bool.{cond};
 ghost use mathlib.Core.List.{[], _∷_};
 ghost use Prim.Native.Nat.{_+_, _-_, _*_, _<_, min};
 ghost use lib.Dec.{eqb};
-ghost use lib.ListN.{length, replicate};
+ghost use lib.ListN.{length};
 ghost use Rattle.reading.specs.Texts.{within};
 ghost use Rattle.sampling.specs.Samples.{adler, changed, number, hexDigit, plain, shown, digits, Front, Filled};
-
-// Room for the file of a case: 210,000 zeros.
-pub fn zeros() -> [u8; 210000]
-    ensures { λ r. ⌜ r ≡ replicate 210000 0 ⌝ }
-    ensures { λ r. ⌜ 210000 ≡ length r ⌝ }
-{
-    [0u8; 210000]
-}
-
-// Bytes to lend: 200,000 of 170.
-pub fn untouched() -> [u8; 200000]
-    ensures { λ r. ⌜ r ≡ replicate 200000 170 ⌝ }
-    ensures { λ r. ⌜ 200000 ≡ length r ⌝ }
-{
-    [170u8; 200000]
-}
 
 // How many of n bytes there are in front: n, or all where there are fewer.
 pub fn front(s: &[u8], n: usize) -> usize

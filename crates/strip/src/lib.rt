@@ -43,7 +43,7 @@ fn strip_lines(s: &[u8], own: &[u8], out: &mut [u8]) -> Stripped
     ensures { λ _. ⌜ now (out .exit) ≡ leaves (stripFields (now (s .entry)) (amongSpelled (linesOf (now (own .entry)))) (length (now (out .entry)))) (now (out .entry)) ⌝ }
 {
     let mut ends = [0usize; Entries::ENTRIES];
-    let n = list_lines::line_ends(own, &mut ends);
+    let n = line_ends::line_ends(own, &mut ends);
     cutting::strip_by(s, own, &ends[..n], out)
 }
 
@@ -53,7 +53,7 @@ fn strip_spelled(s: &[u8], list: &[u8], out: &mut [u8]) -> Stripped
     ensures { λ _. ⌜ now (out .exit) ≡ leaves (stripFields (now (s .entry)) (among (ownList (now (list .entry)) .items)) (length (now (out .entry)))) (now (out .entry)) ⌝ }
 {
     let mut own = spelled_room::spelled();
-    let n = ownlist::spell_list(list, &mut own);
+    let n = spelled_lists::spell_list(list, &mut own);
     strip_lines(s, &own[..n], out)
 }
 

@@ -48,7 +48,7 @@ fn run(block_file: i32, list_file: i32, room: usize) {
     let n = io::read_full(block_file, &mut block);
     let mut list = [0u8; 32768];
     let m = io::read_full(list_file, &mut list);
-    let mut out = sampling::untouched();
+    let mut out = sample_buffers::untouched();
     let lent = sampling::front(&out, room);
     strip_into(&block[..n], &list[..m], &mut out[..lent]);
 }

@@ -20,9 +20,10 @@ use Rattle.tagtests.specs.declared.Collected.{Collected}
 use Rattle.taglist.specs.declared.linked.Sought.{Sought}
 use Rattle.taglist.specs.declared.linked.Sought.the-variants as sought
 use Rattle.lexis_rules.specs.Limits.{byteLimit}
-use Rattle.arc_rules.specs.Tags.{tag}
+use Rattle.tag_rules.specs.Tags.{tag}
 use Rattle.arc_rules.specs.Sets.{sound}
-use Rattle.tags.specs.Tags.{span, TagFound}
+use Rattle.tags.specs.Tags.{TagFound}
+use Rattle.sequences.specs.Spans.{span}
 use Rattle.tagnames.specs.Names.{nameAt, Named, sameAt, holds, bucketOf}
 use Rattle.tagnames.proofs.Ordering.{same-is}
 use Rattle.tagnames.proofs.Needed.{same-named}

@@ -16,7 +16,7 @@ use Rattle.sequences.proofs.Lists.{drop-take}
 use Rattle.reading.specs.Texts.{starts}
 use Rattle.reading.specs.Readers.{run}
 use Rattle.reading.proofs.Readers.{run-take, run-fits}
-use Rattle.arc_rules.specs.Tags.{inTagName}
+use Rattle.tag_rules.specs.Tags.{inTagName}
 use Rattle.tagnames.specs.declared.Order.{Order}
 use Rattle.tagnames.specs.declared.Order.the-variants.{Before, Same, After}
 use Rattle.tagnames.specs.Names.{nameAt, Named, compared, comparedAt}

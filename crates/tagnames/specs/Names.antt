@@ -9,7 +9,7 @@ use Rattle.reading.specs.Texts.{bytes, same, starts}
 use Rattle.reading.specs.Readers.{run}
 use Rattle.tagnames.specs.declared.Order.{Order}
 use Rattle.tagnames.specs.declared.Order.the-variants.{Before, Same, After}
-use Rattle.arc_rules.specs.Tags.{inTagName}
+use Rattle.tag_rules.specs.Tags.{inTagName}
 use Rattle.arc_rules.specs.Sets.{sealTags}
 
 -- the name that starts at a place

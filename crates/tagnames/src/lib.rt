@@ -11,7 +11,7 @@ ghost use mathlib.Core.Path.{_≡_};
 ghost use Prim.Native.Nat.{_%_, _<_};
 ghost use lib.ListN.{drop};
 ghost use Rattle.reading.specs.Texts.{starts};
-ghost use Rattle.arc_rules.specs.Tags.{inTagName};
+ghost use Rattle.tag_rules.specs.Tags.{inTagName};
 ghost use Rattle.arc_rules.specs.Sets.{signatureTags, sealTags};
 ghost use Rattle.tagnames.specs.Names.{comparedAt, sameAt, heldAt, allAt, sealAt, bucketOf};
 

@@ -25,9 +25,10 @@ use Rattle.lexis_laws.proofs.Pieces.{item-fits}
 use Rattle.items.proofs.Loops.{items-on, items-off}
 use Rattle.tags.specs.declared.Tag as found
 use Rattle.tags.specs.declared.Tag.the-variants.{Read, Missing}
-use Rattle.arc_rules.specs.Tags as tags
-use Rattle.arc_rules.specs.Tags.{skipBare, inTagName, tagName, tagValue, trimmed, tag}
-use Rattle.tags.specs.Tags.{span, TagFound, TagPlaces, closedAt, valuedAt, namedAt, tagAt}
+use Rattle.tag_rules.specs.Tags as tags
+use Rattle.tag_rules.specs.Tags.{skipBare, inTagName, tagName, tagValue, trimmed, tag}
+use Rattle.tags.specs.Tags.{TagFound, TagPlaces, closedAt, valuedAt, namedAt, tagAt}
+use Rattle.sequences.specs.Spans.{span}
 
 -- ==== the name
 

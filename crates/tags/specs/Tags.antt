@@ -6,6 +6,7 @@ use mathlib.Core.Bool.{true, false}
 use mathlib.Core.List.{List}
 use lib.Dec.{eqb, leb}
 use lib.ListN.{length, getD, take, drop}
+use Rattle.sequences.specs.Spans.{span}
 use Rattle.reading.specs.Texts.{starts}
 use Rattle.reading.specs.Readers.{run}
 use Rattle.reading.specs.Parsers.{Got, nothing, got}
@@ -13,11 +14,7 @@ use Rattle.reading.specs.Places.{from}
 use Rattle.tags.specs.declared.Tag as found
 use Rattle.tags.specs.declared.Tag.the-variants as tagged
 use Rattle.lexis_rules.specs.Pieces.{bareSpace}
-use Rattle.arc_rules.specs.Tags.{inTagName, tagName, tagValue, trimmed, Tag, tag}
-
--- the bytes from a place up to another
-abbrev pub span : List ℕ → ℕ → ℕ → List ℕ
-span s a e = take (e - a) (drop a s)
+use Rattle.tag_rules.specs.Tags.{inTagName, tagName, tagValue, trimmed, Tag, tag}
 
 -- ==== a tag at a place
 

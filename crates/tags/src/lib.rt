@@ -10,7 +10,7 @@ ghost use lib.ListN.{length, drop};
 ghost use Rattle.reading.specs.Readers.{run};
 ghost use Rattle.reading.specs.Places.{Reaches};
 ghost use Rattle.lexis_rules.specs.Bytes.{letter, inClass};
-ghost use Rattle.arc_rules.specs.Tags.{tagName, tagValue, inTagName};
+ghost use Rattle.tag_rules.specs.Tags.{tagName, tagValue, inTagName};
 ghost use Rattle.tags.specs.Tags.{closedAt, tagAt};
 
 // Whether a byte may stand in a tag's name.

@@ -25,7 +25,7 @@ use Rattle.tagtests.specs.declared.Collected.the-variants.{Sound, Unsoun
 use Rattle.tagtests.specs.declared.Attempt.{Attempt}
 use Rattle.tagtests.specs.declared.Attempt.the-variants as attempt
 use Rattle.lexis_rules.specs.Limits.{byteLimit}
-use Rattle.arc_rules.specs.Tags.{Tag, tag, tags, named, needs, valueNamed, trimmed}
+use Rattle.tag_rules.specs.Tags.{Tag, tag, tags, named, needs, valueNamed, trimmed}
 use Rattle.arc_rules.specs.Sets.{chainValue, sound, signatureTags, isSignature, sealTags, isSeal}
 use Rattle.tagtests.specs.Lists.{tagsAt, listTest, listSaid, listedAt}
 use Rattle.tagnames.specs.Names.{nameAt, Named, sameAt, holds, heldAt, allAt, sealAt}

@@ -27,9 +27,10 @@ use Rattle.lexis_laws.proofs.Pieces.{item-fits, bare-space-fits}
 use Rattle.tags.specs.declared.Tag as told
 use Rattle.tags.specs.declared.Tag.the-variants as tagged
 use Rattle.tagtests.specs.declared.Collected.{Collected}
-use Rattle.arc_rules.specs.Tags.{inTagName, tagName, tagValue, trimmed, Tag, tag, named, unrepeated, valueNamed}
+use Rattle.tag_rules.specs.Tags.{inTagName, tagName, tagValue, trimmed, Tag, tag, named, unrepeated, valueNamed}
 use Rattle.arc_rules.specs.Sets.{chainValue, sound}
-use Rattle.tags.specs.Tags.{span, TagFound, tagAt}
+use Rattle.tags.specs.Tags.{TagFound, tagAt}
+use Rattle.sequences.specs.Spans.{span}
 use Rattle.tags.proofs.TagParts.{tag-found}
 use Rattle.tagnames.specs.Names.{nameAt, Named, sameAt, holds}
 use Rattle.tagnames.proofs.Ordering.{same-is, same-flip}

@@ -9,7 +9,7 @@ use Rattle.reading.specs.Texts.{bytes}
 use Rattle.reading.specs.Parsers.{nothing, got}
 use Rattle.reading.specs.Places.{from, listAt}
 use Rattle.lexis_rules.specs.Limits.{byteLimit}
-use Rattle.arc_rules.specs.Tags.{Tag, tag, tags, valueNamed}
+use Rattle.tag_rules.specs.Tags.{Tag, tag, tags, valueNamed}
 use Rattle.arc_rules.specs.Sets.{chainValue, isSignature, isSeal}
 
 -- the tags from a place on

@@ -14,7 +14,7 @@ use Rattle.tagtests.specs.declared.Collected.the-variants.{Sound, Unsoun
 use Rattle.tagtests.specs.declared.Collected.the-variants as collected
 use Rattle.tagtests.specs.declared.Attempt.{Attempt}
 use Rattle.tagtests.specs.declared.Attempt.the-variants as attempt
-use Rattle.arc_rules.specs.Tags.{trimmed, tag, named, valueNamed}
+use Rattle.tag_rules.specs.Tags.{trimmed, tag, named, valueNamed}
 use Rattle.arc_rules.specs.Sets.{chainValue, sound, signatureTags}
 use Rattle.tagnames.specs.Names.{nameAt, sameAt, holds, allAt, sealAt}
 use Rattle.tagtests.specs.Lists.{tagsAt, listedAt}

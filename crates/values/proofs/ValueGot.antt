@@ -23,7 +23,8 @@ use Rattle.values.specs.declared.Value as place
 use Rattle.values.specs.declared.Value.the-variants as at
 use Rattle.values.specs.declared.Found.the-variants.{Read, Refused}
 use Rattle.resinfo_rules.specs.Results.{Kind, Token, Quoted, Mailbox, AtDomain, Value, next, readQuoted, inLocalPart, singleDots, isLocalPart, domain, addressed, address, quotedMailbox, quotedValue, tokenValue, atBehind, propertyValue}
-use Rattle.values.specs.Values.{upTo, mailboxAt, atDomainAt, addressAt, quotedTo, quotedAt, tokenAt, valueFrom, valueAt, span, valueOf, valueGot}
+use Rattle.values.specs.Values.{upTo, mailboxAt, atDomainAt, addressAt, quotedTo, quotedAt, tokenAt, valueFrom, valueAt, valueOf, valueGot}
+use Rattle.sequences.specs.Spans.{span}
 
 abbrev told : Kind → List ℕ → Value
 told k t = record { kind = k; text = t }

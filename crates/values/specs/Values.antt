@@ -6,6 +6,7 @@ use mathlib.Core.Bool.{Bool, true, false}
 use mathlib.Core.List.{List, _∷_, _++_}
 use lib.Dec.{eqb}
 use lib.ListN.{getD, take, drop}
+use Rattle.sequences.specs.Spans.{span}
 use Rattle.reading.specs.Readers.{run}
 use Rattle.reading.specs.Parsers.{Got, nothing, got}
 use Rattle.lexis_rules.specs.Pieces.{token, quoted}
@@ -63,10 +64,6 @@ abbrev pub valueAt : List ℕ → ℕ → Found
 valueAt s start = valueFrom s start (start + run inLocalPart (drop start s))
 
 -- ==== kind and text
-
--- the bytes from a place up to another
-abbrev pub span : List ℕ → ℕ → ℕ → List ℕ
-span s a e = take (e - a) (drop a s)
 
 -- the text of a local part, quoted or not
 abbrev pub localText : List ℕ → ℕ → ℕ → Bool → List ℕ

@@ -70,7 +70,7 @@ fn read_back(lines: &[u8], out: &[u8], w: Written) {
         return;
     }
     let n = sampling::front(out, w.written);
-    let mut reported = sampling::zeros();
+    let mut reported = sample_buffers::zeros();
     let r = report::report(&out[..n], &mut reported);
     put_answer(
         b" read back number ",
@@ -92,9 +92,9 @@ fn write_into(lines: &[u8], out: &mut [u8]) {
 
 // The same on the file of the lines, with so many lent bytes, each 170.
 fn run(file: i32, room: usize) {
-    let mut lines = sampling::zeros();
+    let mut lines = sample_buffers::zeros();
     let n = io::read_full(file, &mut lines);
-    let mut out = sampling::untouched();
+    let mut out = sample_buffers::untouched();
     let lent = sampling::front(&out, room);
     write_into(&lines[..n], &mut out[..lent]);
 }

@@ -8,7 +8,7 @@ use mathlib.Core.List.{List, [], _++_, append-nil}
 use borrow.Author.Tests.{le-leb, lt-leb}
 use lib.ListN.{length, take, drop, drop-of-length-le}
 use lib.Seq.{sets, length-take-le, take-append-seam}
-use Rattle.sequences.specs.Stored.{Clipped, Put}
+use Rattle.sequences.specs.Stored.{Clipped}
 use Rattle.sequences.proofs.Splices.{sets-front}
 use Rattle.reading.specs.Walks.{Walked}
 use Rattle.lexis_rules.specs.Limits.{byteLimit}
@@ -16,6 +16,10 @@ use Rattle.compose.specs.Entries.{Entry}
 use Rattle.compose.specs.Bodies.{bodyOf}
 use Rattle.compose.specs.Compose.{front, entries, refusal, sized, answer, compose}
 use Rattle.compose_laws.proofs.Runs.{Walk, accepted, refused, walk}
+use Rattle.first_pass.specs.declared.Copy.{Copy}
+use Rattle.first_pass.specs.declared.Copy.the-variants.{Short, Again, Done}
+use Rattle.first_pass.specs.Copies.{copyOf, copyLeaves}
+use Rattle.first_pass.proofs.Copying.{when-short, when-again, when-done}
 use Rattle.writing.specs.declared.Lines.{Lines}
 use Rattle.compose.specs.declared.Written.{Written}
 use Rattle.compose.specs.Answers.{answerOf, leaves}
@@ -55,13 +59,6 @@ module _ (room : ℕ) (w : Walked Entry) where
 short : {a b : ℕ} → a ≡ b → a ≤ b
 short e = omega (arith, e)
 
--- a front of a buffer is lent or copied
-pub front-long : (l : List ℕ) (n : ℕ) → n ≤ length l → n ≡ length (take n l)
-front-long l n h = sym (length-take-le n l h)
-
-pub scratch-long : {w : Walked Entry} {own scratch : List ℕ} {m : Lines} → LinesPut w own scratch m → m .next ≤ length own → m .next ≤ length scratch
-scratch-long k l = omega (arith, l, k .long)
-
 -- ==== one law for each way out: m is what the first pass answers, which runs on a buffer of its own
 
 -- an answer, and what it leaves
@@ -95,37 +92,45 @@ module _ (s old : List ℕ) where
         short-body : length (bodyOf (entries s .items)) ≤ byteLimit
         short-body = omega (arith, needed, low)
 
-        pub answer-6 : length old < m .next → Answered s old old (record { number = 6; place = m .next; written = 0 })
+        -- all of it is written over the front
+        fills : m .next ≤ length old → (new : List ℕ) → new ≡ bodyOf (entries s .items) ++ drop (length (bodyOf (entries s .items))) old
+            → Answered s old new (record { number = 0; place = 0; written = m .next })
         unfolding compose
-        answer-6 l = refuses 6 (m .next) (answer-short (length old) (entries s) well short-body (rw needed at l) ∙ ap (refusal 6) (sym needed))
+        fills l new b =
+            let q : compose s (length old) ≡ record { number = 0; place = 0; written = bodyOf (entries s .items) } =
+            answer-fits (length old) (entries s) well short-body (rw needed at l) in
+            (rw (q, needed), rw q b)
 
-        module _ (l : m .next ≤ length old) where
-          -- all of it is written over the front
-          fills : (new : List ℕ) → new ≡ bodyOf (entries s .items) ++ drop (length (bodyOf (entries s .items))) old
-              → Answered s old new (record { number = 0; place = 0; written = m .next })
+        -- c is what became of what the first pass wrote, and `new` what the lent buffer holds then
+        module _ (new : List ℕ) (c : Copy) (e : c ≡ copyOf (length scratch) (m .next) (length old)) (v : new ≡ copyLeaves c scratch (m .next) old) where
+          pub answer-6 : c ≡ Short → Answered s old new (record { number = 6; place = m .next; written = 0 })
           unfolding compose
-          fills new b =
-              let q : compose s (length old) ≡ record { number = 0; place = 0; written = bodyOf (entries s .items) } =
-              answer-fits (length old) (entries s) well short-body (rw needed at l) in
-              (rw (q, needed), rw q b)
+          answer-6 q =
+              let w = when-short scratch (m .next) old new c e v q in
+              rw (w .same) (refuses 6 (m .next) (answer-short (length old) (entries s) well short-body (rw needed at (w .more)) ∙ ap (refusal 6) (sym needed)))
 
-          -- it is copied from the first pass's buffer
-          pub answer-copied : m .next ≤ length own → (new : List ℕ) (n : ℕ) → Put old 0 (take (m .next) scratch) new n
-              → Answered s old new (record { number = 0; place = 0; written = m .next })
-          answer-copied f new n c =
+          -- it was copied from the first pass's buffer
+          pub answer-copied : c ≡ Done → Answered s old new (record { number = 0; place = 0; written = m .next })
+          answer-copied q =
+              let w = when-done scratch (m .next) old new c e v q in
+              let f : length (bodyOf (entries s .items)) ≤ length own = omega (arith, w .whole, k .long, needed) in
               let b : scratch ≡ bodyOf (entries s .items) ++ drop (length (bodyOf (entries s .items))) own =
-              clip .bytes ∙ sets-front own (bodyOf (entries s .items)) (rw needed at f) in
+              clip .bytes ∙ sets-front own (bodyOf (entries s .items)) f in
               let t : take (m .next) scratch ≡ bodyOf (entries s .items) =
               rw (needed, b) (take-append-seam (bodyOf (entries s .items)) (drop (length (bodyOf (entries s .items))) own)) in
-              fills new (c .bytes ∙ (ap (sets old 0) t ∙ sets-front old (bodyOf (entries s .items)) (rw needed at l)))
+              fills (w .fits) new (w .text ∙ (ap (sets old 0) t ∙ sets-front old (bodyOf (entries s .items)) (omega (arith, w .fits, needed))))
 
           -- it is written by a second pass, which is lent as much as it takes
-          pub answer-written : (out : List ℕ) (r : Lines) → LinesPut (entries s) (take (m .next) old) out r
-              → Answered s old (out ++ drop (m .next) old) (record { number = 0; place = 0; written = m .next })
-          answer-written out r d =
-              let f : length (take (m .next) old) ≡ length (bodyOf (entries s .items)) = length-take-le (m .next) old l ∙ needed in
-              let c : Clipped (take (m .next) old) 0 (bodyOf (entries s .items)) out (r .next) = d .put (d .number ∙ well) in
-              let e : drop (length (bodyOf (entries s .items))) (take (m .next) old) ≡ [] = drop-of-length-le (take (m .next) old) (short f) in
+          pub again-fits : c ≡ Again → m .next ≤ length new
+          again-fits q = let w = when-again scratch (m .next) old new c e v q in omega (arith, w .fits, ap length (w .same))
+
+          pub answer-written : c ≡ Again → (out : List ℕ) (r : Lines) → LinesPut (entries s) (take (m .next) new) out r
+              → Answered s old (out ++ drop (m .next) new) (record { number = 0; place = 0; written = m .next })
+          answer-written q out r d =
+              let w = when-again scratch (m .next) old new c e v q in
+              let f : length (take (m .next) new) ≡ length (bodyOf (entries s .items)) = length-take-le (m .next) new (again-fits q) ∙ needed in
+              let p : Clipped (take (m .next) new) 0 (bodyOf (entries s .items)) out (r .next) = d .put (d .number ∙ well) in
+              let z : drop (length (bodyOf (entries s .items))) (take (m .next) new) ≡ [] = drop-of-length-le (take (m .next) new) (short f) in
               let t : out ≡ bodyOf (entries s .items) =
-              c .bytes ∙ (sets-front (take (m .next) old) (bodyOf (entries s .items)) (omega (arith, f)) ∙ (ap (λ (x : List ℕ). bodyOf (entries s .items) ++ x) e ∙ append-nil (bodyOf (entries s .items)))) in
-              fills (out ++ drop (m .next) old) (rw (t, needed))
+              p .bytes ∙ (sets-front (take (m .next) new) (bodyOf (entries s .items)) (omega (arith, f)) ∙ (ap (λ (x : List ℕ). bodyOf (entries s .items) ++ x) z ∙ append-nil (bodyOf (entries s .items)))) in
+              fills (w .fits) (out ++ drop (m .next) new) (rw (t, needed, w .same))

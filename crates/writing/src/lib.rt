@@ -10,6 +10,7 @@
 // tried in this order. A refusal writes nothing and returns a zero count; bytes past those written stay unchanged.
 use answer_numbers::Number;
 use compose::Written;
+use first_pass::Copy;
 ghost use mathlib.Core.Path.{_≡_};
 ghost use lib.ListN.{length};
 ghost use Rattle.compose.specs.Compose.{entries, compose};
@@ -157,25 +158,24 @@ pub fn write(lines: &[u8], out: &mut [u8]) -> Written
             written: 0,
         };
     }
-    if first.next > out.len() {
-        return Written {
+    match first_pass::copy_first(&scratch, first.next, out) {
+        Copy::Short => Written {
             number: Number::TOO_SHORT,
             place: first.next,
             written: 0,
-        };
-    }
-    if first.next > scratch.len() {
-        put_lines(lines, &mut out[..first.next]);
-        return Written {
+        },
+        Copy::Again => {
+            put_lines(lines, &mut out[..first.next]);
+            Written {
+                number: Number::DONE,
+                place: 0,
+                written: first.next,
+            }
+        }
+        Copy::Done => Written {
             number: Number::DONE,
             place: 0,
             written: first.next,
-        };
-    }
-    texts::put_text(&scratch[..first.next], out, 0);
-    Written {
-        number: Number::DONE,
-        place: 0,
-        written: first.next,
+        },
     }
 }

@@ -20,7 +20,7 @@ same-text-requires-2 : tie.Need-same-text-requires-2
 same-text-requires-2 c κs = search needs
 
 returns-2 : tie.Need-returns-2
-returns-2 c = search kind-signature
+returns-2 c = kind-signature _ _ (c .before .before .before .before .same-text .ensures) (c .before .before .before .if1 .left) _ (c .before .same-text2 .ensures) (c .if2 .taken)
 
 slice-aggregate-same-text-3 : tie.Need-slice-aggregate-same-text-3
 slice-aggregate-same-text-3 c = search needs
@@ -29,10 +29,10 @@ same-text-requires-3 : tie.Need-same-text-requires-3
 same-text-requires-3 c κs = search needs
 
 returns-3 : tie.Need-returns-3
-returns-3 c = search kind-seal
+returns-3 c = kind-seal _ _ (c .before .before .before .before .before .before .before .same-text .ensures) (c .before .before .before .before .before .before .if1 .left) _ (c .before .before .before .before .same-text2 .ensures) (c .before .before .before .if2 .left) _ (c .before .same-text3 .ensures) (c .if3 .taken)
 
 returns-4 : tie.Need-returns-4
-returns-4 c = search kind-other
+returns-4 c = kind-other _ _ (c .before .before .before .before .before .before .before .same-text .ensures) (c .before .before .before .before .before .before .if1 .left) _ (c .before .before .before .before .same-text2 .ensures) (c .before .before .before .if2 .left) _ (c .before .same-text3 .ensures) (c .if3 .left)
 
 pub kind-of-spec : {M : Type 1} → statement M
 kind-of-spec =

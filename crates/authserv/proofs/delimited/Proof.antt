@@ -1,4 +1,6 @@
 -- `authserv::delimited` meets its contract: what comes next at a place. Assumes nothing.
+use Rattle.lexis_rules.specs.declared.Class.the-variants.{Delimiter}
+use Rattle.lexis_rules.specs.Bytes.{inClass}
 use Rattle.reading.proofs.Texts.{follows-at, follows-end}
 use borrow.Author.Needs.{needs}
 use Rattle.authserv.proofs.delimited.Statement.{statement}
@@ -14,7 +16,7 @@ returns : tie.Need-returns
 returns c = search follows-at
 
 returns-2 : tie.Need-returns-2
-returns-2 c = search follows-end
+returns-2 c = follows-end (inClass Delimiter) (c .before .before .args .s .now) (c .before .before .args .at) (c .if1 .left)
 
 pub delimited-spec : {M : Type 1} → statement M
 delimited-spec =

@@ -17,7 +17,7 @@ readable-requires : tie.Need-readable-requires
 readable-requires c κs = search needs
 
 returns : tie.Need-returns
-returns c = search identify-quoted
+returns c = identify-quoted (c .before .before .before .before .before .before .args .body .now) (c .before .before .before .before .wide-space-end .result) (c .before .before .before .before .wide-space-end .ensures) _ (c .before .before .before .is-at .ensures) (c .before .before .if1 .taken) _ (c .before .quoted-end .ensures) _ (c .readable .ensures)
 
 identifier-token-end-requires : tie.Need-identifier-token-end-requires
 identifier-token-end-requires c κs = search needs

@@ -14,7 +14,7 @@ line-text-requires : tie.Need-line-text-requires
 line-text-requires c κs = search needs
 
 returns : tie.Need-returns
-returns c = search finish-2
+returns c = finish-2 (c .before .before .before .before .before .args .s .now) (c .before .before .before .before .before .args .at) _ _ _ (c .before .before .before .folds-end .result) (c .before .before .before .folds-end .ensures) _ (c .before .before .blank-at .ensures) (c .before .if1 .taken) _ (c .line-text .ensures)
 
 returns-2 : tie.Need-returns-2
 returns-2 c = search finish-field

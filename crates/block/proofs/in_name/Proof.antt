@@ -1,7 +1,7 @@
 -- `block::in_name` meets its contract: colon is the one byte from 33 to 126 that may not stand there. Assumes nothing.
 use native.Mathlib.Omega.{arith}
 use mathlib.Core.Path.{sym}
-use Rattle.block.proofs.Wide.{name-byte, name-below, name-above}
+use Rattle.block.proofs.Lines.{name-byte, name-below, name-above}
 use Rattle.block.proofs.in_name.Statement.{statement}
 use Rattle.block.proofs.in_name.Tie as tie
 

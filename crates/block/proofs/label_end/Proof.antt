@@ -18,7 +18,7 @@ add-result : tie.Need-add-result
 add-result c = search there-fits
 
 returns-2 : tie.Need-returns-2
-returns-2 c = search label-yes
+returns-2 c = label-yes (c .before .before .before .before .before .args .s .now) (c .before .before .before .before .before .args .at) (c .before .before .before .before .before .args .n) (c .before .before .before .before .before .pre) (c .before .before .before .if1 .left) (c .before .before .run-end .result) (c .before .before .run-end .ensures) _ (c .before .is-at .ensures) (c .if2 .taken)
 
 returns-3 : tie.Need-returns-3
 returns-3 c = search label-no

@@ -13,7 +13,7 @@ returns-3 : tie.Need-returns-3
 returns-3 c = search white-return
 
 returns-4 : tie.Need-returns-4
-returns-4 c = search white-feed
+returns-4 c = white-feed _ (c .before .before .if1 .left) (c .before .if2 .left) (c .if3 .left)
 
 pub is-white-spec : {M : Type 1} → statement M
 is-white-spec = tie.close (tie.spec returns returns-2 returns-3 returns-4)

@@ -6,7 +6,7 @@ use borrow.Author.Needs.{needs}
 use Rattle.reading.specs.Readers.{run}
 use Rattle.reading.specs.Places.{Reaches}
 use Rattle.reading.proofs.Loops.{reaches-start, run-on}
-use Rattle.arc_rules.specs.Tags.{white}
+use Rattle.tag_rules.specs.Tags.{white}
 use Rattle.chain_values.proofs.ChainValues.{white-off, white-out}
 use Rattle.chain_values.proofs.white_end.Statement.{statement}
 use Rattle.chain_values.proofs.white_end.Tie as tie

@@ -1,6 +1,7 @@
 -- `comparing::same_word` meets its contract: texts of different lengths are not alike, and at each turn the rests are alike if and only if
 -- the whole texts are. Assumes nothing.
 use Prim.Native.Nat.{_-_}
+use native.Mathlib.Omega.{arith}
 use mathlib.Core.Path.{_≡_, refl}
 use borrow.Author.Needs.{needs}
 use lib.ListN.{length, drop}
@@ -17,7 +18,7 @@ abbrev μ-loop : tie.MeasureT-loop
 μ-loop a b j₀ j = length a - j
 
 returns : tie.Need-returns Inv-loop μ-loop
-returns c = search alike-long
+returns c = alike-long _ _ (λ e. omega arith)
 
 loop-holds : tie.Need-loop-holds Inv-loop μ-loop
 loop-holds c = refl
@@ -26,7 +27,7 @@ shared-slice-read-same-byte : tie.Need-shared-slice-read-same-byte Inv-loop μ-l
 shared-slice-read-same-byte c = search needs
 
 shared-slice-read-same-byte-2 : tie.Need-shared-slice-read-same-byte-2 Inv-loop μ-loop
-shared-slice-read-same-byte-2 c = search needs
+shared-slice-read-same-byte-2 c = omega arith
 
 same-byte-requires : tie.Need-same-byte-requires Inv-loop μ-loop
 same-byte-requires c κs = search needs
@@ -38,7 +39,7 @@ loop-less : tie.Need-loop-less Inv-loop μ-loop
 loop-less c = search needs
 
 loop-again : tie.Need-loop-again Inv-loop μ-loop
-loop-again c = search word-on
+loop-again c = word-on (c .before .before .before .before .before .before .before .before .before .args .a .now) (c .before .before .before .before .before .before .before .before .before .args .b .now) (omega arith) (c .before .before .before .before .before .loop .j) (c .before .before .before .before .before .loop .inv) (c .before .before .before .before .loop-test .taken) _ (c .before .same-byte .ensures) (c .if2 .taken)
 
 returns-2 : tie.Need-returns-2 Inv-loop μ-loop
 returns-2 c = search word-off

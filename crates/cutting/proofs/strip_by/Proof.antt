@@ -42,7 +42,7 @@ slice-aggregate-put-between-2 : tie.Need-slice-aggregate-put-between-2
 slice-aggregate-put-between-2 c = search needs
 
 put-between-requires : tie.Need-put-between-requires
-put-between-requires c κs = (omega (arith, c .before .before .before .before .before .before .before .before .before .before .starts2 .given), omega (arith, c .before .before .before .before .before .before .before .before .before .stops2 .given))
+put-between-requires c κs = search needs
 
 same-length-2 : tie.Need-same-length-2
 same-length-2 c = search needs

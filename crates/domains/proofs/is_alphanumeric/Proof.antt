@@ -5,7 +5,7 @@ use Rattle.domains.proofs.is_alphanumeric.Statement.{statement}
 use Rattle.domains.proofs.is_alphanumeric.Tie as tie
 
 returns : tie.Need-returns
-returns c = search hyphen-alphanumeric
+returns c = hyphen-alphanumeric _ (c .if1 .taken)
 
 in-class-requires : tie.Need-in-class-requires
 in-class-requires c κs = search needs

@@ -8,10 +8,10 @@ use Rattle.endings.proofs.outcome.Statement.{statement}
 use Rattle.endings.proofs.outcome.Tie as tie
 
 returns : tie.Need-returns
-returns c = search outcome-refused
+returns c = outcome-refused _ _ _ _ (c .if1 .taken)
 
 returns-2 : tie.Need-returns-2
-returns-2 c = search outcome-long
+returns-2 c = outcome-long _ _ _ _ (c .before .if1 .left) (c .if2 .taken)
 
 slice-aggregate-write-whole : tie.Need-slice-aggregate-write-whole
 slice-aggregate-write-whole c = sym (length-take-le _ _ (omega arith))

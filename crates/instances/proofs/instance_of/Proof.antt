@@ -8,7 +8,7 @@ mark-end-requires : tie.Need-mark-end-requires
 mark-end-requires c κs = search needs
 
 returns : tie.Need-returns
-returns c = search instance-no-name
+returns c = instance-no-name (c .before .before .before .args .body .now) (c .before .mark-end .result) (c .before .mark-end .ensures) (c .if1 .taken)
 
 mark-end-requires-2 : tie.Need-mark-end-requires-2
 mark-end-requires-2 c κs = search needs

@@ -1,4 +1,5 @@
 -- `instances::worth` meets its contract: one or two digits, by the length of the text. Assumes nothing.
+use native.Mathlib.Omega.{arith}
 use borrow.Author.Needs.{needs}
 use Rattle.instances.proofs.Instances.{digit-alone, digit-first, digit-second, tens-fit, sum-fits, worth-one, worth-two, worth-none}
 use Rattle.instances.proofs.worth.Statement.{statement}
@@ -17,7 +18,7 @@ shared-slice-read-digit-2 : tie.Need-shared-slice-read-digit-2
 shared-slice-read-digit-2 c = search needs
 
 digit-requires-2 : tie.Need-digit-requires-2
-digit-requires-2 c κs = search digit-first
+digit-requires-2 c κs = digit-first (c .before .before .before .before .args .d .now) (c .before .before .before .before .pre) (omega arith)
 
 mul-result : tie.Need-mul-result
 mul-result c = search tens-fit

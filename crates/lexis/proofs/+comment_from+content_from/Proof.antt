@@ -117,7 +117,7 @@ comment-from-returns-2 : (t : ℕ) → comment-from-lts.Need-returns-2 (
   content-from-below t,
   content-from.Post,
 ) (comment-from-at t) comment-from.Post
-comment-from-returns-2 t c = search comment-closes
+comment-from-returns-2 t c = comment-closes (c .before .before .before .before .before .before .before .args .s .now) (c .before .before .before .before .before .before .before .args .c .at) (c .before .before .before .before .before .before .before .args .c .depth) (c .before .before .before .before .before .if1 .left) _ (c .before .before .before .before .is-at .ensures) (c .before .before .before .if2 .taken) _ (c .before .before .content-from .ensures) _ (c .before .is-at2 .ensures) (c .if3 .taken)
 
 comment-from-returns-3 : (t : ℕ) → comment-from-lts.Need-returns-3 (
   is-at-reads.Asked,

@@ -7,7 +7,7 @@ returns : tie.Need-returns
 returns c = search blank-space
 
 returns-2 : tie.Need-returns-2
-returns-2 c = search blank-tab
+returns-2 c = blank-tab _ (c .if1 .left)
 
 pub is-blank-spec : {M : Type 1} → statement M
 is-blank-spec = tie.close (tie.spec returns returns-2)

@@ -41,7 +41,7 @@ item-at-requires : tie.Need-item-at-requires Inv-loop μ-loop
 item-at-requires c κs = search needs
 
 returns-2 : tie.Need-returns-2 Inv-loop μ-loop
-returns-2 c = search (at-item, blank-no-open)
+returns-2 c = at-item _ _ blank-no-open _ _ _ _ (c .before .before .before .before .before .loop .inv) (c .before .before .before .before .blanks-end .ensures) _ (c .before .before .before .is-at .ensures) (c .before .before .if1 .left) _ (c .before .item-at .ensures) (c .if3 .taken)
 
 add-i : tie.Need-add-i Inv-loop μ-loop
 add-i c = search item-turn

@@ -3,7 +3,7 @@ use Prim.Native.Nat.{_-_}
 use native.Mathlib.Omega.{arith}
 use borrow.Author.Needs.{needs}
 use lib.ListN.{length}
-use Rattle.list_lines.proofs.Feeds.{Seeking, seek-start, seek-end, seek-hit, seek-more}
+use Rattle.list_lines.proofs.Lines.{Seeking, seek-start, seek-end, seek-hit, seek-more}
 use Rattle.list_lines.proofs.is_line.Statement.{statement}
 use Rattle.list_lines.proofs.is_line.Tie as tie
 

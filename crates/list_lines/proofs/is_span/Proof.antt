@@ -1,6 +1,6 @@
 -- `list_lines::is_span` meets its contract: bytes of another length are not alike, and where there are none the text has none. Assumes nothing.
 use borrow.Author.Needs.{needs}
-use Rattle.list_lines.proofs.Feeds.{span-other, span-empty}
+use Rattle.list_lines.proofs.Lines.{span-other, span-empty}
 use Rattle.list_lines.proofs.is_span.Statement.{statement}
 use Rattle.list_lines.proofs.is_span.Tie as tie
 
@@ -26,7 +26,7 @@ same-text-requires : tie.Need-same-text-requires
 same-text-requires c κs = search needs
 
 returns-3 : tie.Need-returns-3
-returns-3 c = search needs
+returns-3 c = c .same-text .ensures
 
 pub is-span-spec : {M : Type 1} → statement M
 is-span-spec =

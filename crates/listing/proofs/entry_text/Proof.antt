@@ -1,4 +1,5 @@
 -- `listing::entry_text` meets its contract: a run of visible bytes ends the text where no byte from 128 up follows. Assumes nothing.
+use native.Mathlib.Omega.{arith}
 use borrow.Author.Needs.{needs}
 use Rattle.listing.proofs.Sequences.{text-plain, text-past}
 use Rattle.listing.proofs.entry_text.Statement.{statement}
@@ -11,7 +12,7 @@ byte-requires : tie.Need-byte-requires
 byte-requires c κs = search needs
 
 returns : tie.Need-returns
-returns c = search text-plain
+returns c = text-plain (c .before .before .before .before .args .s .now) (c .before .before .before .before .args .at) _ (c .before .before .visible-end .ensures) _ (c .before .byte .ensures) (omega arith)
 
 text-from-requires : tie.Need-text-from-requires
 text-from-requires c κs = search needs

@@ -21,7 +21,7 @@ sub-t6 : tie.Need-sub-t6
 sub-t6 c = search needs
 
 returns-4 : tie.Need-returns-4
-returns-4 c = search listed-entry
+returns-4 c = listed-entry (c .before .before .before .before .before .args .s .now) (c .before .before .before .before .before .args .w .at) (c .before .before .before .before .before .args .w .count) (omega arith) (c .before .before .entry-end .result) (c .before .before .entry-end .ensures) (c .before .if2 .left) (c .if3 .left)
 
 pub next-entry-spec : {M : Type 1} → statement M
 next-entry-spec =

@@ -1,5 +1,5 @@
 -- `ownlist::is_spelled_line` meets its contract: a text without two hyphens in a row is its own spelling. Assumes nothing.
-use Rattle.ownlist.proofs.Spelt.{plain-long, plain-line}
+use Rattle.ownlist.proofs.Texts.{plain-long, plain-line}
 use borrow.Author.Needs.{needs}
 use Rattle.ownlist.proofs.is_spelled_line.Statement.{statement}
 use Rattle.ownlist.proofs.is_spelled_line.Tie as tie

@@ -32,7 +32,7 @@ returns-5 : tie.Need-returns-5
 returns-5 c = search label-no-equals
 
 returns-6 : tie.Need-returns-6
-returns-6 c = search label-read
+returns-6 c = label-read (c .before .before .before .before .before .before .before .before .before .before .args .s .now) (c .before .before .before .before .before .before .before .before .before .before .args .at) (c .before .before .before .before .before .before .before .before .before .before .args .type-start) (c .before .before .before .before .before .before .before .before .if1 .left) (c .before .before .before .before .before .before .before .keyword-end .result) (c .before .before .before .before .before .before .before .keyword-end .ensures) (c .before .before .before .before .before .before .if2 .left) (c .before .before .before .before .before .mark-end .result) (c .before .before .before .before .before .mark-end .ensures) (c .before .before .before .before .if3 .left) (c .before .before .before .keyword-end2 .result) (c .before .before .before .keyword-end2 .ensures) (c .before .before .if4 .left) (c .before .mark-end2 .result) (c .before .mark-end2 .ensures) (c .if5 .left)
 
 pub label-from-spec : {M : Type 1} → statement M
 label-from-spec =

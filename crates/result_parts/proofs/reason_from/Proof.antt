@@ -1,11 +1,12 @@
 -- `result_parts::reason_from` meets its contract: each way through the code is a case of the definition. Assumes nothing.
+use native.Mathlib.Omega.{arith}
 use Rattle.result_parts.proofs.Reasons.{reason-no-space, reason-no-word, reason-no-equals, reason-value}
 use borrow.Author.Needs.{needs}
 use Rattle.result_parts.proofs.reason_from.Statement.{statement}
 use Rattle.result_parts.proofs.reason_from.Tie as tie
 
 returns : tie.Need-returns
-returns c = search reason-no-space
+returns c = reason-no-space (c .before .before .args .s .now) (c .before .before .args .at) (c .before .before .args .word) (omega arith)
 
 reason-word-end-requires : tie.Need-reason-word-end-requires
 reason-word-end-requires c κs = search needs

@@ -1,5 +1,6 @@
 -- `result_parts::reason_word_end` meets its contract: its first letter, and then a keyword and whether it is the word. Assumes nothing.
-use Rattle.result_parts.proofs.Reasons.{word-starts-not, word-empty, word-inside, word-there, word-other}
+use Rattle.marks.proofs.Marks.{word-inside}
+use Rattle.result_parts.proofs.Reasons.{word-starts-not, word-empty, word-there, word-other}
 use borrow.Author.Needs.{needs}
 use Rattle.result_parts.proofs.reason_word_end.Statement.{statement}
 use Rattle.result_parts.proofs.reason_word_end.Tie as tie
@@ -11,7 +12,7 @@ lower-requires : tie.Need-lower-requires
 lower-requires c κs = search needs
 
 returns : tie.Need-returns
-returns c = search word-starts-not
+returns c = word-starts-not (c .before .before .before .before .args .s .now) (c .before .before .before .before .args .at) _ (c .before .lower .result) (c .before .before .byte .ensures) (c .before .lower .ensures) (c .if1 .taken)
 
 keyword-end-requires : tie.Need-keyword-end-requires
 keyword-end-requires c κs = search needs

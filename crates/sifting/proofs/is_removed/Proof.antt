@@ -14,10 +14,10 @@ is-disowned-requires : tie.Need-is-disowned-requires
 is-disowned-requires c κs = search needs
 
 returns : tie.Need-returns
-returns c = search this-name
+returns c = this-name _ _ _ _ (c .before .before .same-text .ensures) (c .before .if1 .taken) _ (c .is-disowned .ensures)
 
 returns-2 : tie.Need-returns-2
-returns-2 c = search other-name
+returns-2 c = other-name _ _ _ _ (c .before .same-text .ensures) (c .if1 .left)
 
 pub is-removed-spec : {M : Type 1} → statement M
 is-removed-spec =

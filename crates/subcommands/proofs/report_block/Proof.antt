@@ -2,7 +2,7 @@
 use Prim.Native.Nat.{ℕ}
 use Rattle.reports_rules.specs.Reports.{reports}
 use Rattle.reports_rules.specs.Answers.{answerOf}
-use Rattle.subcommands.specs.Ends.{ReportEnds}
+use Rattle.outcomes.specs.Ends.{ReportEnds}
 use Rattle.subcommands.proofs.Rooms.{ends-so}
 use borrow.Author.Needs.{needs}
 use Rattle.subcommands.proofs.report_block.Statement.{statement}
@@ -17,16 +17,16 @@ slice-aggregate-reports c = search needs
 reports-requires-2 : tie.Need-reports-requires-2
 reports-requires-2 c κs = search needs
 
-slice-aggregate-outcome : tie.Need-slice-aggregate-outcome
-slice-aggregate-outcome c = search needs
+slice-aggregate-report-outcome : tie.Need-slice-aggregate-report-outcome
+slice-aggregate-report-outcome c = search needs
 
-outcome-requires : tie.Need-outcome-requires
-outcome-requires c κs = search needs
+report-outcome-requires : tie.Need-report-outcome-requires
+report-outcome-requires c κs = search needs
 
 returns : tie.Need-returns
 returns c =
     let body = c .before .before .before .before .before .before .before .before .args in
-    ends-so ReportEnds (λ (k : ℕ). answerOf (reports (body .block .now) (body .list .now) k)) 229377 _ _ (c .before .before .before .reports2 .result) _ (slice-aggregate-reports (c .before .before .before .before)) (slice-aggregate-outcome (c .before)) (c .before .before .before .reports2 .ensures .0) (c .outcome .ensures)
+    ends-so ReportEnds (λ (k : ℕ). answerOf (reports (body .block .now) (body .list .now) k)) 229377 _ _ (c .before .before .before .reports2 .result) _ (slice-aggregate-reports (c .before .before .before .before)) (slice-aggregate-report-outcome (c .before)) (c .before .before .before .reports2 .ensures .0) (c .report-outcome .ensures)
 
 pub report-block-spec : {M : Type 1} → statement M
 report-block-spec =
@@ -35,6 +35,6 @@ report-block-spec =
     reports-requires
     slice-aggregate-reports
     reports-requires-2
-    slice-aggregate-outcome
-    outcome-requires
+    slice-aggregate-report-outcome
+    report-outcome-requires
     returns)

@@ -2,7 +2,7 @@
 use Prim.Native.Nat.{ℕ}
 use Rattle.compose.specs.Compose.{compose}
 use Rattle.compose.specs.Answers.{answerOf}
-use Rattle.subcommands.specs.Ends.{WriteEnds}
+use Rattle.outcomes.specs.Ends.{WriteEnds}
 use Rattle.subcommands.proofs.Rooms.{ends-so}
 use borrow.Author.Needs.{needs}
 use Rattle.subcommands.proofs.write_body.Statement.{statement}
@@ -17,16 +17,16 @@ slice-aggregate-write c = search needs
 write-requires : tie.Need-write-requires
 write-requires c κs = search needs
 
-slice-aggregate-outcome : tie.Need-slice-aggregate-outcome
-slice-aggregate-outcome c = search needs
+slice-aggregate-write-outcome : tie.Need-slice-aggregate-write-outcome
+slice-aggregate-write-outcome c = search needs
 
-outcome-requires : tie.Need-outcome-requires
-outcome-requires c κs = search needs
+write-outcome-requires : tie.Need-write-outcome-requires
+write-outcome-requires c κs = search needs
 
 returns : tie.Need-returns
 returns c =
     let body = c .before .before .before .before .before .before .before .args in
-    ends-so WriteEnds (λ (k : ℕ). answerOf (compose (body .lines .now) k)) 65537 _ _ (c .before .before .before .write .result) _ (slice-aggregate-write (c .before .before .before .before)) (slice-aggregate-outcome (c .before)) (c .before .before .before .write .ensures .0) (c .outcome .ensures)
+    ends-so WriteEnds (λ (k : ℕ). answerOf (compose (body .lines .now) k)) 65537 _ _ (c .before .before .before .write .result) _ (slice-aggregate-write (c .before .before .before .before)) (slice-aggregate-write-outcome (c .before)) (c .before .before .before .write .ensures .0) (c .write-outcome .ensures)
 
 pub write-body-spec : {M : Type 1} → statement M
 write-body-spec =
@@ -35,6 +35,6 @@ write-body-spec =
     block-requires
     slice-aggregate-write
     write-requires
-    slice-aggregate-outcome
-    outcome-requires
+    slice-aggregate-write-outcome
+    write-outcome-requires
     returns)

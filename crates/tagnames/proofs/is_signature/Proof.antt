@@ -1,6 +1,7 @@
 -- `tagnames::is_signature` meets its contract: the names are looked for in turn. Assumes nothing.
 use Rattle.tagnames.proofs.Needed.{needed-not, needed-on, needed-last}
 use borrow.Author.Needs.{needs}
+use Rattle.reading.specs.Texts.{bytes}
 use Rattle.tagnames.proofs.is_signature.Statement.{statement}
 use Rattle.tagnames.proofs.is_signature.Tie as tie
 
@@ -29,7 +30,7 @@ has-requires-3 : tie.Need-has-requires-3
 has-requires-3 c κs = search needs
 
 returns-3 : tie.Need-returns-3
-returns-3 c = search (needed-not, needed-on)
+returns-3 c = needed-on _ _ _ _ (c .before .before .before .before .before .before .before .has .ensures) _ _ (c .before .before .before .before .before .before .if1 .left) (needed-on _ _ _ _ (c .before .before .before .before .has2 .ensures) _ _ (c .before .before .before .if2 .left) (needed-not _ _ (bytes "bh") _ (c .before .has3 .ensures) _ (c .if3 .taken)))
 
 slice-aggregate-has-4 : tie.Need-slice-aggregate-has-4
 slice-aggregate-has-4 c = search needs

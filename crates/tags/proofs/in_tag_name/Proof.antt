@@ -3,7 +3,7 @@ use borrow.Author.Tests.{ne-eqb}
 use mathlib.Core.Path.{_∙_}
 use Rattle.reading.specs.Texts.{within}
 use Rattle.lexis_rules.specs.Bytes.{letter, inClass}
-use Rattle.arc_rules.specs.Tags.{inTagName}
+use Rattle.tag_rules.specs.Tags.{inTagName}
 use borrow.Author.Needs.{needs}
 use Rattle.tags.proofs.in_tag_name.Statement.{statement}
 use Rattle.tags.proofs.in_tag_name.Tie as tie

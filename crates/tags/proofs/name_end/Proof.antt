@@ -6,7 +6,7 @@ use lib.ListN.{length}
 use Rattle.reading.specs.Readers.{run}
 use Rattle.reading.specs.Places.{Reaches}
 use Rattle.reading.proofs.Loops.{reaches-start, run-on, run-off, run-out}
-use Rattle.arc_rules.specs.Tags.{inTagName}
+use Rattle.tag_rules.specs.Tags.{inTagName}
 use Rattle.tags.proofs.name_end.Statement.{statement}
 use Rattle.tags.proofs.name_end.Tie as tie
 

@@ -1,4 +1,6 @@
 -- `tags::tag_at` meets its contract: each way through the code is a case of the definition. Assumes nothing.
+use native.Mathlib.Omega.{arith}
+use mathlib.Core.Path.{refl}
 use borrow.Author.Needs.{needs}
 use Rattle.reading.proofs.Loops.{there-fits}
 use Rattle.tags.proofs.TagParts.{at-no-name, at-no-equals, at-closed}
@@ -21,7 +23,7 @@ is-at-requires : tie.Need-is-at-requires
 is-at-requires c κs = search needs
 
 add-closed : tie.Need-add-closed
-add-closed c = search there-fits
+add-closed c = omega (arith, there-fits (c .before .before .before .before .before .before .before .args .s .now) (c .before .before .bare-space-end2 .result) 61 _ (c .before .is-at .ensures) (c .if2 .taken) refl (omega arith))
 
 add-value-end : tie.Need-add-value-end
 add-value-end c = search there-fits
@@ -33,7 +35,7 @@ closed-requires : tie.Need-closed-requires
 closed-requires c κs = search needs
 
 returns-2 : tie.Need-returns-2
-returns-2 c = search at-closed
+returns-2 c = at-closed (c .before .before .before .before .before .before .before .before .before .args .s .now) (c .before .before .before .before .before .before .before .before .before .args .at) (c .before .before .before .before .before .before .before .bare-space-end .result) (c .before .before .before .before .before .before .before .bare-space-end .ensures) (c .before .before .before .before .before .before .tag-name-end .result) (c .before .before .before .before .before .before .tag-name-end .ensures) (c .before .before .before .before .before .if1 .left) (c .before .before .before .before .bare-space-end2 .result) (c .before .before .before .before .bare-space-end2 .ensures) _ (c .before .before .before .is-at .ensures) (c .before .before .if2 .taken) _ (c .before .value-end .ensures) _ (c .closed .ensures)
 
 returns-3 : tie.Need-returns-3
 returns-3 c = search at-no-equals

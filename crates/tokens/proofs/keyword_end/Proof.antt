@@ -17,7 +17,7 @@ is-at-requires : tie.Need-is-at-requires
 is-at-requires c κs = search needs
 
 returns-2 : tie.Need-returns-2
-returns-2 c = search keyword-hyphen
+returns-2 c = keyword-hyphen (c .before .before .before .before .before .args .s .now) (c .before .before .before .before .before .args .at) (c .before .before .before .run-end .result) (c .before .before .before .run-end .ensures) (c .before .before .if1 .left) _ (c .before .is-at .ensures) (c .if2 .taken)
 
 returns-3 : tie.Need-returns-3
 returns-3 c = search keyword-there

@@ -23,7 +23,7 @@ returns-3 : tie.Need-returns-3
 returns-3 c = search value-none
 
 returns-4 : tie.Need-returns-4
-returns-4 c = search value-token
+returns-4 c = value-token (c .before .before .before .before .before .args .s .now) (c .before .before .before .before .before .args .at) _ (c .before .before .before .is-at .ensures) (c .before .before .if1 .left) (c .before .token-end .result) (c .before .token-end .ensures) (c .if3 .left)
 
 pub value-at-spec : {M : Type 1} → statement M
 value-at-spec =

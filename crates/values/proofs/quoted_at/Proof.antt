@@ -17,7 +17,7 @@ mailbox-at-requires : tie.Need-mailbox-at-requires
 mailbox-at-requires c κs = search sign-there
 
 returns-2 : tie.Need-returns-2
-returns-2 c = search quoted-mailbox
+returns-2 c = quoted-mailbox (c .before .before .before .before .before .before .args .s .now) (c .before .before .before .before .before .before .args .at) (c .before .before .before .before .quoted-end .result) (c .before .before .before .before .quoted-end .ensures) (c .before .before .before .if1 .left) _ (c .before .before .is-at .ensures) (c .before .if2 .taken) _ (c .mailbox-at .ensures)
 
 returns-3 : tie.Need-returns-3
 returns-3 c = search quoted-read

@@ -1,4 +1,5 @@
 -- `instances::Instance::is_number` meets its contract: each test is one of the definition. Assumes nothing.
+use native.Mathlib.Omega.{arith}
 use Rattle.instances.proofs.Instances.{number-low, number-high}
 use Rattle.instances.proofs.Instance.is_number.Statement.{statement}
 use Rattle.instances.proofs.Instance.is_number.Tie as tie
@@ -7,7 +8,7 @@ returns : tie.Need-returns
 returns c = search number-low
 
 returns-2 : tie.Need-returns-2
-returns-2 c = search number-high
+returns-2 c = number-high (c .before .args .n) (omega arith)
 
 pub is-number-spec : {M : Type 1} → statement M
 is-number-spec = tie.close (tie.spec returns returns-2)

@@ -16,13 +16,13 @@ abbrev μ-loop : tie.MeasureT-loop
 
 -- a turn goes on, inside the body
 near : (c : tie.After-known-told Inv-loop μ-loop) → (c .before .before .before .before .before .before .before .loop .i < c .before .end .given .0 .0) × (c .before .end .given .0 .0 ≤ length (c .before .before .before .before .before .before .before .before .before .before .args .s .now))
-near c = passing-further _ _ _ _ _ _ _ _ _ (c .before .before .before .before .before .before .before .loop .inv) _ _ (c .before .before .before .before .before .put-result .ensures) _ _ _ _ (c .before .end .given .1)
+near c = passing-further _ _ _ _ _ _ _ _ _ (c .before .before .before .before .before .before .before .loop .inv) _ _ (c .before .before .before .before .before .put-next .ensures) _ _ _ _ (c .before .end .given .1)
 
 loop-holds : tie.Need-loop-holds Inv-loop μ-loop
 loop-holds c = passing-start _ _ _ _ _ (c .before .before .pre .0)
 
-put-result-requires : tie.Need-put-result-requires Inv-loop μ-loop
-put-result-requires c κs = passing-room _ _ _ _ _ _ _ _ _ (c .before .loop .inv) (c .before .before .before .before .pre .1 .0) (c .before .before .before .before .pre .1 .1)
+put-next-requires : tie.Need-put-next-requires Inv-loop μ-loop
+put-next-requires c κs = passing-room _ _ _ _ _ _ _ _ _ (c .before .loop .inv) (c .before .before .before .before .pre .1 .0) (c .before .before .before .before .pre .1 .1)
 
 enum-known-end : tie.Need-enum-known-end Inv-loop μ-loop
 enum-known-end c = search needs
@@ -31,7 +31,7 @@ loop-less : tie.Need-loop-less Inv-loop μ-loop
 loop-less c = omega (arith, near (c .before))
 
 loop-again : tie.Need-loop-again Inv-loop μ-loop
-loop-again c = passing-shown _ _ _ _ _ _ _ _ _ (c .before .before .before .before .before .before .before .before .loop .inv) _ _ (c .before .before .before .before .before .before .put-result .ensures) _ _ _ _ (c .before .before .end .given .1) (c .if1 .taken)
+loop-again c = passing-shown _ _ _ _ _ _ _ _ _ (c .before .before .before .before .before .before .before .before .loop .inv) _ _ (c .before .before .before .before .before .before .put-next .ensures) _ _ _ _ (c .before .before .end .given .1) (c .if1 .taken)
 
 add-ignored : tie.Need-add-ignored Inv-loop μ-loop
 add-ignored c = omega (arith, near (c .before), c .before .before .before .before .before .before .before .before .loop .inv .few, c .before .before .before .before .before .before .before .before .before .before .before .pre .1 .0)
@@ -40,16 +40,16 @@ loop-less-2 : tie.Need-loop-less-2 Inv-loop μ-loop
 loop-less-2 c = omega (arith, near (c .before))
 
 loop-again-2 : tie.Need-loop-again-2 Inv-loop μ-loop
-loop-again-2 c = passing-ignored _ _ _ _ _ _ _ _ _ (c .before .before .before .before .before .before .before .before .loop .inv) _ _ (c .before .before .before .before .before .before .put-result .ensures) _ _ _ _ (c .before .before .end .given .1) (c .if1 .left)
+loop-again-2 c = passing-ignored _ _ _ _ _ _ _ _ _ (c .before .before .before .before .before .before .before .before .loop .inv) _ _ (c .before .before .before .before .before .before .put-next .ensures) _ _ _ _ (c .before .before .end .given .1) (c .if1 .left)
 
 enum-told : tie.Need-enum-told Inv-loop μ-loop
 enum-told c = search needs
 
 same-length : tie.Need-same-length Inv-loop μ-loop
-same-length c = passed-long _ _ _ _ _ _ _ _ _ (c .before .before .before .before .before .before .loop .inv) _ _ (c .before .before .before .before .put-result .ensures) (c .enum-told .given .1)
+same-length c = passed-long _ _ _ _ _ _ _ _ _ (c .before .before .before .before .before .before .loop .inv) _ _ (c .before .before .before .before .put-next .ensures) (c .enum-told .given .1)
 
 returns : tie.Need-returns Inv-loop μ-loop
-returns c = passed _ _ _ _ _ _ _ _ _ (c .before .before .before .before .before .before .loop .inv) _ _ (c .before .before .before .before .put-result .ensures) (c .enum-told .given .1)
+returns c = passed _ _ _ _ _ _ _ _ _ (c .before .before .before .before .before .before .loop .inv) _ _ (c .before .before .before .before .put-next .ensures) (c .enum-told .given .1)
 
 pub put-results-spec : {M : Type 1} → statement M
 put-results-spec =
@@ -58,7 +58,7 @@ put-results-spec =
     Inv-loop
     μ-loop
     loop-holds
-    put-result-requires
+    put-next-requires
     enum-known-end
     loop-less
     loop-again

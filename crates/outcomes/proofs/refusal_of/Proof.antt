@@ -1,0 +1,13 @@
+-- `outcomes::refusal_of` meets its contract: bad verdicts have a line of their own. Assumes nothing.
+use Rattle.outcomes.proofs.Words.{refused-verdicts, refused-so}
+use Rattle.outcomes.proofs.refusal_of.Statement.{statement}
+use Rattle.outcomes.proofs.refusal_of.Tie as tie
+
+returns : tie.Need-returns
+returns c = search refused-verdicts
+
+returns-2 : tie.Need-returns-2
+returns-2 c = search refused-so
+
+pub refusal-of-spec : {M : Type 1} → statement M
+refusal-of-spec = tie.close (tie.spec returns returns-2)

@@ -1,0 +1,4 @@
+pub mod Sizes
+pub mod Whose
+pub mod Ways
+pub mod Headlines

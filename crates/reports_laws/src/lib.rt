@@ -1,0 +1,1 @@
+// The laws and theorems of the report of a whole header block; no code.
