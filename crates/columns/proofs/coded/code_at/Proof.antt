@@ -32,7 +32,8 @@ hex-requires-2 : tie.Need-hex-requires-2
 hex-requires-2 c κs = search needs
 
 returns-4 : tie.Need-returns-4
-returns-4 c = search code-no-second
+returns-4 c =
+    code-no-second _ _ (c .before .before .before .before .before .before .before .before .before .byte .ensures) _ (c .before .before .before .before .before .before .before .before .is-plain .ensures) (c .before .before .before .before .before .before .before .if1 .left) (c .before .before .before .before .before .before .if2 .left) _ (c .before .before .before .before .before .byte2 .ensures) _ (c .before .before .before .before .hex .ensures) (c .before .before .before .if3 .left) _ (c .before .before .byte3 .ensures) _ (c .before .hex2 .ensures) (c .if4 .taken)
 
 mul-is-plain : tie.Need-mul-is-plain
 mul-is-plain c = search needs
