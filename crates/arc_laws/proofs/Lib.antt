@@ -6,3 +6,4 @@ pub mod Answering
 pub mod Headlines
 pub mod Ways
 pub mod ChainSamples
+pub mod Limits

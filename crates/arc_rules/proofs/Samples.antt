@@ -164,10 +164,10 @@ oldests = refl
 -- ==== answers
 
 -- a number and its place, and 0 for everything else
-abbrev zeros : ℕ → ℕ → Answer
+abbrev pub zeros : ℕ → ℕ → Answer
 zeros n p = record { number = n; place = p; outcome = 0; reason = 0; field = 0; instances = 0; status = 0; oldest = 0 }
 
-abbrev fails : ℕ → ℕ → Answer
+abbrev pub fails : ℕ → ℕ → Answer
 fails a f = record { number = 0; place = 0; outcome = 1; reason = a; field = f; instances = 0; status = 2; oldest = 0 }
 
 abbrev passed : ℕ → ℕ → Answer
@@ -213,7 +213,7 @@ judge-built : map (judge one) ((3 ∷ []) ∷ (2 ∷ []) ∷ (4 ∷ []) ∷ []) 
 unfolding opened
 judge-built = refl
 
-abbrev judges : List ℕ → Answer
+abbrev pub judges : List ℕ → Answer
 judges b = judge b (9 ∷ [])
 
 -- a block without such fields; (a) and (b) with their field; (c)
@@ -239,16 +239,6 @@ refusals = refl
 two-before-ten : judges (one ++ bytes "A") ≡ zeros 2 133
 unfolding opened
 two-before-ten = refl
-
--- so many fields of four bytes
-abbrev short : ℕ → List ℕ
-short zero = []
-short (suc n) = bytes "A:\r\n" ++ short n
-
--- 4: the 513th field. The 512th is read and has its number
-most : judges (short 513) ∷ judges (short 511 ++ bytes "ARC-Seal:\r\n") ∷ [] ≡ zeros 4 2048 ∷ fails 1 512 ∷ []
-unfolding opened
-most = refl
 
 -- 1 before 2: every block of 65,537 bytes that starts with an LF. One of 65,536 is walked
 long : (rest : List ℕ) → length rest ≡ 65536 → judges (10 ∷ rest) ≡ zeros 1 0

@@ -1,4 +1,3 @@
 pub mod Tokens
 pub mod Identifiers
-pub mod Versions
 pub mod Headlines

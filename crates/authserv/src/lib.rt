@@ -1,16 +1,13 @@
-// The identifier at the front of a field body (RFC 8601: authserv-id), and the header version behind it.
+// The identifier at the front of a field body (RFC 8601: authserv-id).
 //
 // Where the identifier can't be read nothing further is tried: that is number 7 where a report is asked for, and the field goes where a
 // block is stripped.
 use lexis_rules::Class;
-use lexis_rules::VersionNumber;
 ghost use mathlib.Core.Path.{_≡_};
 ghost use Prim.Native.Nat.{_+_};
 ghost use lib.ListN.{drop};
-ghost use Rattle.reading.specs.Texts.{follows};
-ghost use Rattle.lexis_rules.specs.Bytes.{inClass};
 ghost use Rattle.authserv_rules.specs.Identifier.{identifierByte, identifierToken};
-ghost use Rattle.authserv.specs.Answers.{readable, identifierAt, versionAt};
+ghost use Rattle.authserv.specs.Answers.{readable, identifierAt};
 
 // Where an identifier stands: from `start` up to `end`, with its quotes where it is quoted.
 pub enum Identifier {
@@ -20,16 +17,6 @@ pub enum Identifier {
         quoted: bool,
     },
     Unreadable,
-}
-
-// Whether the end, or one of space, tab, CR, "(" and ";", comes next.
-pub fn delimited(s: &[u8], at: usize) -> bool
-    ensures { λ r. ⌜ r ≡ follows (inClass Class.Delimiter) (drop at (now (s .entry))) ⌝ }
-{
-    if at < s.len() {
-        return items::in_class(Class::Delimiter, s[at]);
-    }
-    true
 }
 
 // Whether a byte may stand in the token of an identifier.
@@ -75,7 +62,7 @@ fn readable(s: &[u8], a: usize, e: usize, quoted: bool) -> Identifier
     if e == a {
         return Identifier::Unreadable;
     }
-    if delimited(s, e) {
+    if delimiters::delimited(s, e) {
         return Identifier::Readable {
             start: a,
             end: e,
@@ -94,34 +81,4 @@ pub fn identify(body: &[u8]) -> Identifier
         return readable(body, a, tokens::quoted_end(body, a), true);
     }
     readable(body, a, identifier_token_end(body, a), false)
-}
-
-// The header version: the digits that count from `start` up to `end`, and their number. Absent means 1.
-pub enum Version {
-    Absent,
-    Stated {
-        start: usize,
-        end: usize,
-        number: VersionNumber,
-    },
-}
-
-// The header version behind an identifier that ends at a place.
-pub fn version_at(s: &[u8], at: usize) -> Version
-    ensures { λ r. ⌜ r ≡ versionAt (now (s .entry)) at ⌝ }
-{
-    let a = lexis::space_end(s, at);
-    if a == at {
-        return Version::Absent;
-    }
-    let d = digit_runs::digits_at(s, a);
-    if d.end == a {
-        return Version::Absent;
-    }
-    let number = d.number;
-    Version::Stated {
-        start: d.start,
-        end: d.end,
-        number,
-    }
 }

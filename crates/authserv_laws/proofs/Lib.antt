@@ -5,3 +5,4 @@ pub mod OwnLists
 pub mod Ends
 pub mod Parts
 pub mod Headlines
+pub mod Utf8Bytes

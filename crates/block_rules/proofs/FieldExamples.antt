@@ -1,14 +1,14 @@
 -- Lines, names and bodies at worked examples, and the bytes that they may hold, computed. Assumes nothing.
-use Prim.Native.Nat.{ℕ, zero, suc}
+use Prim.Native.Nat.{ℕ}
 use mathlib.Core.Path.{_≡_, refl}
 use mathlib.Core.Bool.{true, false}
 use mathlib.Core.List.{List, [], _∷_, _++_, map}
 use lib.Dec.{eqb}
-use lib.ListN.{length}
 use Rattle.reading.specs.Texts.{bytes}
+use Rattle.reading.specs.Walks.{item, refused}
 use Rattle.reading.proofs.Cases.{case, Says}
 use Rattle.lexis_rules.proofs.ClassExamples.{range, members}
-use Rattle.block_rules.specs.Fields.{Field, inLine, line, nameColon, extent, nameOf, bodyOf, named, fieldLimit, fields, bytesOf, select}
+use Rattle.block_rules.specs.Fields.{Field, inLine, line, nameColon, extent, nameOf, bodyOf, named, fieldLimit, fieldAt, fields, bytesOf, select}
 use Rattle.block_rules.proofs.Examples.{opened}
 
 -- ==== bytes
@@ -108,14 +108,9 @@ picked = refl
 limits : fieldLimit ≡ 512
 limits = refl
 
--- n fields of four bytes
-abbrev block : ℕ → List ℕ
-block zero = []
-block (suc n) = bytes "A:\r\n" ++ block n
-
--- the number, the place and how many fields there are before
-wholeBlocks :
-    map (λ (n : ℕ). fields (block n) .number ∷ fields (block n) .place ∷ length (fields (block n) .items) ∷ []) (512 ∷ 513 ∷ [])
-    ≡ (0 ∷ 0 ∷ 512 ∷ []) ∷ (4 ∷ 2048 ∷ 512 ∷ []) ∷ []
+-- after 511 fields one more is read, after 512 none
+counted :
+    map (λ (n : ℕ). fieldAt 7 n (bytes "A:\r\n")) (511 ∷ 512 ∷ 513 ∷ [])
+    ≡ item (record { bytes = bytes "A:\r\n"; name = 1; body = 2 }) 4 ∷ refused 4 7 ∷ refused 4 7 ∷ []
 unfolding opened
-wholeBlocks = refl
+counted = refl

@@ -3,8 +3,9 @@
 use Prim.Native.Nat.{ℕ}
 use mathlib.Core.Path.{_≡_, refl}
 use mathlib.Core.List.{List, [], _∷_, _++_, map}
+use lib.ListN.{length}
 use Rattle.reading.specs.Texts.{bytes}
-use Rattle.reading.proofs.Cases.{case, Says, copies}
+use Rattle.reading.proofs.Cases.{case, Says}
 use Rattle.compose.specs.Entries.{Entry}
 use Rattle.compose.specs.Compose.{Answer, refusal, sized, answer, compose}
 use Rattle.compose.specs.Promise.{linesWithFeeds}
@@ -306,6 +307,6 @@ unfolding answer
 eleven-first room line es = refl
 
 -- a body of one byte more than the limit, with no room at all
-one-first : sized 0 (copies 65537 97) .number ≡ 1
-unfolding opened
-one-first = refl
+one-first : (out : List ℕ) → length out ≡ 65537 → sized 0 out ≡ refusal 1 0
+unfolding sized
+one-first out e = rw (sized, e)

@@ -6,51 +6,14 @@
 use lexis_rules::Class;
 ghost use mathlib.Core.Path.{_≡_};
 ghost use mathlib.Core.Bool.{false, true};
-ghost use mathlib.Core.List.{[], _∷_};
-ghost use Prim.Native.Nat.{_+_, _%_, _≤_};
+ghost use Prim.Native.Nat.{_+_, _≤_};
 ghost use lib.ListN.{length, drop};
 ghost use Rattle.sequences.specs.Stored.{Clipped};
 ghost use Rattle.reading.specs.Readers.{run};
 ghost use Rattle.reading.specs.Places.{Reaches};
 ghost use Rattle.lexis_rules.specs.Words.{quotedText};
-ghost use Rattle.body.specs.Report.{hexDigit, plain, escape};
+ghost use Rattle.body.specs.Report.{escape};
 ghost use Rattle.escaping.specs.Internal.{verbatim};
-
-// The upper-case hex digit of the lower half of a byte.
-fn hex_digit(b: u8) -> u8
-    ensures { λ r. ⌜ r ≡ hexDigit (b % 16) ⌝ }
-{
-    let n = b % 16;
-    if n < 10 {
-        return b'0' + n;
-    }
-    b'A' + (n - 10)
-}
-
-// Whether a byte stands for itself in a text.
-fn is_plain(b: u8) -> bool
-    ensures { λ r. ⌜ r ≡ plain b ⌝ }
-{
-    if b < 33 {
-        return false;
-    }
-    if b > 126 {
-        return false;
-    }
-    b != b'%'
-}
-
-// A byte, or the percent sign and the two digits that stand for it.
-fn put_escape(b: u8, out: &mut [u8], to: usize) -> usize
-    ensures { λ r. ⌜ Clipped (now (out .entry)) to (escape (b ∷ [])) (now (out .exit)) r ⌝ }
-{
-    if is_plain(b) {
-        return texts::put_byte(b, out, to);
-    }
-    let n = texts::put_byte(b'%', out, to);
-    let m = texts::put_byte(hex_digit(b / 16), out, n);
-    texts::put_byte(hex_digit(b), out, m)
-}
 
 // Whether a byte is written as it stands, in a quoted string or not. All tests are made, so that many bytes can be tested at once.
 fn is_verbatim(b: u8) -> bool
@@ -59,7 +22,7 @@ fn is_verbatim(b: u8) -> bool
     (b >= 38) & (b != b'\\') & (b <= 126)
 }
 
-// Whether one of n bytes is not, in the same way as `has_stop` of `lexis`.
+// Whether one of n bytes is not, in the same way as `has_stop` of `comment_text`.
 fn has_stop(s: &[u8], at: usize, n: usize) -> bool
     requires { ⌜ at + n ≤ length (now s) ⌝ }
     ensures { λ r. ⌜ (r ≡ false → Reaches (run verbatim) (now (s .entry)) at (at + n)) ⌝ }
@@ -140,7 +103,7 @@ pub fn put_escaped(text: &[u8], out: &mut [u8], to: usize) -> usize
             n = texts::put_part(&text[i..e], out, n);
             i = e;
         } else {
-            n = put_escape(b, out, n);
+            n = escapes::put_escape(b, out, n);
             i += 1;
         }
     }
@@ -166,7 +129,7 @@ pub fn put_quoted(s: &[u8], at: usize, out: &mut [u8], to: usize) -> usize
             if k == 0 {
                 return n;
             }
-            n = put_escape(reading::byte(s, i, k - 1), out, n);
+            n = escapes::put_escape(reading::byte(s, i, k - 1), out, n);
             i += k;
         }
     }

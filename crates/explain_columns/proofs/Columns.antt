@@ -15,10 +15,11 @@ use Rattle.reading.specs.Readers.{run}
 use Rattle.reading.specs.Places.{Reaches}
 use Rattle.reading.proofs.Loops.{run-on, run-off}
 use Rattle.reading.proofs.Readers.{run-fits}
+use Rattle.reading.proofs.Texts.{same-long}
 use Rattle.lexis_rules.specs.declared.Class.the-variants.{Visible}
 use Rattle.lexis_rules.specs.Bytes.{inClass}
 use Rattle.explain_rules.specs.declared.Line.{Line}
-use Rattle.explain_rules.specs.declared.Line.the-variants.{Field, Identifier, Version, NoResult, Method, Reason, Property, Other}
+use Rattle.explain_rules.specs.declared.Line.the-variants.{Field, Identifier, NoResult, Other}
 use Rattle.explain_rules.specs.Explained.{inColumn, column, behind, kindOf, kindOfLine, shown, text}
 use Rattle.explain_columns.specs.Until.{except}
 
@@ -51,7 +52,27 @@ module _ (l : List ℕ) (e : ℕ) (q : e ≡ 0 + run (except 9) (drop 0 l)) wher
 
 -- ==== what a line is
 
-module _ (w : List ℕ) (b₁ : Bool) (e₁ : b₁ ≡ same w (bytes "field")) where
+-- one byte, that is none of the letters
+module _ (x : ℕ) where
+  longer : (y : ℕ) (ys : List ℕ) (z : ℕ) → same (x ∷ []) (z ∷ (y ∷ ys)) ≡ false
+  longer y ys z = same-long (x ∷ []) (z ∷ (y ∷ ys)) (λ e. omega (arith, e))
+
+  other : (z : ℕ) → (x ≡ z → ⊥) → same (x ∷ []) (z ∷ []) ≡ false
+  unfolding same
+  other z h = rw (ne-eqb x z h)
+
+  pub letter-other : (x ≡ 118 → ⊥) → (x ≡ 109 → ⊥) → (x ≡ 114 → ⊥) → (x ≡ 112 → ⊥) → Other ≡ kindOf (x ∷ [])
+  unfolding kindOf
+  letter-other v m r p =
+      rw (longer 105 (bytes "eld") 102, longer 100 [] 105, other 118 v, longer 111 (bytes "ne") 110, other 109 m, other 114 r, other 112 p)
+
+pub is-letter : (w : List ℕ) → length w ≡ 1 → (k : Line) → k ≡ kindOf (getD w 0 0 ∷ []) → k ≡ kindOf w
+is-letter [] h k q = absurd (omega arith)
+is-letter (x ∷ []) h k q = q
+is-letter (x ∷ (y ∷ ys)) h k q = absurd (omega arith)
+
+-- more than one, or none
+module _ (w : List ℕ) (n : length w ≡ 1 → ⊥) (b₁ : Bool) (e₁ : b₁ ≡ same w (bytes "field")) where
   pub is-field : b₁ ≡ true → Field ≡ kindOf w
   unfolding kindOf
   is-field q = rw (← e₁, q)
@@ -61,34 +82,15 @@ module _ (w : List ℕ) (b₁ : Bool) (e₁ : b₁ ≡ same w (bytes "field")) w
     unfolding kindOf
     is-identifier q = rw (← e₁, q₁, ← e₂, q)
 
-    module _ (q₂ : b₂ ≡ false) (b₃ : Bool) (e₃ : b₃ ≡ same w (bytes "v")) where
-      pub is-version : b₃ ≡ true → Version ≡ kindOf w
+    module _ (q₂ : b₂ ≡ false) (b₃ : Bool) (e₃ : b₃ ≡ same w (bytes "none")) where
+      pub is-no-result : b₃ ≡ true → NoResult ≡ kindOf w
       unfolding kindOf
-      is-version q = rw (← e₁, q₁, ← e₂, q₂, ← e₃, q)
+      is-no-result q = rw (← e₁, q₁, ← e₂, q₂, same-long w (bytes "v") n, ← e₃, q)
 
-      module _ (q₃ : b₃ ≡ false) (b₄ : Bool) (e₄ : b₄ ≡ same w (bytes "none")) where
-        pub is-no-result : b₄ ≡ true → NoResult ≡ kindOf w
-        unfolding kindOf
-        is-no-result q = rw (← e₁, q₁, ← e₂, q₂, ← e₃, q₃, ← e₄, q)
-
-        module _ (q₄ : b₄ ≡ false) (b₅ : Bool) (e₅ : b₅ ≡ same w (bytes "m")) where
-          pub is-method : b₅ ≡ true → Method ≡ kindOf w
-          unfolding kindOf
-          is-method q = rw (← e₁, q₁, ← e₂, q₂, ← e₃, q₃, ← e₄, q₄, ← e₅, q)
-
-          module _ (q₅ : b₅ ≡ false) (b₆ : Bool) (e₆ : b₆ ≡ same w (bytes "r")) where
-            pub is-reason : b₆ ≡ true → Reason ≡ kindOf w
-            unfolding kindOf
-            is-reason q = rw (← e₁, q₁, ← e₂, q₂, ← e₃, q₃, ← e₄, q₄, ← e₅, q₅, ← e₆, q)
-
-            module _ (q₆ : b₆ ≡ false) (b₇ : Bool) (e₇ : b₇ ≡ same w (bytes "p")) where
-              pub is-property : b₇ ≡ true → Property ≡ kindOf w
-              unfolding kindOf
-              is-property q = rw (← e₁, q₁, ← e₂, q₂, ← e₃, q₃, ← e₄, q₄, ← e₅, q₅, ← e₆, q₆, ← e₇, q)
-
-              pub is-other : b₇ ≡ false → Other ≡ kindOf w
-              unfolding kindOf
-              is-other q = rw (← e₁, q₁, ← e₂, q₂, ← e₃, q₃, ← e₄, q₄, ← e₅, q₅, ← e₆, q₆, ← e₇, q)
+      pub is-other : b₃ ≡ false → Other ≡ kindOf w
+      unfolding kindOf
+      is-other q =
+          rw (← e₁, q₁, ← e₂, q₂, same-long w (bytes "v") n, ← e₃, q, same-long w (bytes "m") n, same-long w (bytes "r") n, same-long w (bytes "p") n)
 
 pub kind-line : (l w : List ℕ) → w ≡ column l → (k : Line) → k ≡ kindOf w → k ≡ kindOfLine l
 kind-line l w e k q = q ∙ rw e

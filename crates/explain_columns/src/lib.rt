@@ -7,7 +7,7 @@
 use explain_rules::Line;
 use lexis_rules::Class;
 ghost use mathlib.Core.Path.{_≡_};
-ghost use mathlib.Core.List.{_++_, map};
+ghost use mathlib.Core.List.{[], _∷_, _++_, map};
 ghost use Prim.Native.Nat.{_+_};
 ghost use lib.ListN.{drop};
 ghost use Rattle.sequences.specs.Stored.{Clipped};
@@ -47,30 +47,34 @@ pub fn behind(l: &[u8]) -> &[u8]
     &l[..0]
 }
 
+// What a line is whose first column is one byte.
+fn kind_of_letter(b: u8) -> Line
+    ensures { λ r. ⌜ r ≡ kindOf (b ∷ []) ⌝ }
+{
+    match b {
+        b'v' => Line::Version,
+        b'm' => Line::Method,
+        b'r' => Line::Reason,
+        b'p' => Line::Property,
+        _ => Line::Other,
+    }
+}
+
 // What a line is, by its first column.
 fn kind_of(w: &[u8]) -> Line
     ensures { λ r. ⌜ r ≡ kindOf (now (w .entry)) ⌝ }
 {
+    if w.len() == 1 {
+        return kind_of_letter(w[0]);
+    }
     if same_bytes::is_same(w, b"field") {
         return Line::Field;
     }
     if same_bytes::is_same(w, b"id") {
         return Line::Identifier;
     }
-    if same_bytes::is_same(w, b"v") {
-        return Line::Version;
-    }
     if same_bytes::is_same(w, b"none") {
         return Line::NoResult;
-    }
-    if same_bytes::is_same(w, b"m") {
-        return Line::Method;
-    }
-    if same_bytes::is_same(w, b"r") {
-        return Line::Reason;
-    }
-    if same_bytes::is_same(w, b"p") {
-        return Line::Property;
     }
     Line::Other
 }

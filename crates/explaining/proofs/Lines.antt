@@ -2,8 +2,10 @@
 use Prim.Native.Nat.{ℕ, suc, _+_, _≤_, _<_, _^_, min}
 use native.Mathlib.Omega.{arith}
 use mathlib.Core.Path.{_≡_, refl, sym, ap, _∙_}
-use mathlib.Core.Bool.{Bool, true, false}
+use mathlib.Core.Bool.{Bool, true, false, cond}
 use mathlib.Core.List.{List, [], _∷_, _++_}
+use denote.Enum.Declared.{tagOf}
+use types.Run.{OneOf, miss}
 use lib.Dec.{leb}
 use lib.ListN.{length, drop}
 use borrow.Author.Tests.{leb-true, leb-false}
@@ -16,6 +18,8 @@ use Rattle.authserv_rules.specs.Ends.{feedless, untilFeed}
 use Rattle.sequences.specs.Spans.{span}
 use Rattle.authserv_laws.proofs.Ends.{lines-none, line-inside, lines-at}
 use Rattle.explain_rules.specs.declared.Line.{Line}
+use Rattle.explain_rules.specs.declared.Line.the-variants.{Field, Identifier, Version, NoResult, Method, Reason, Property, Other}
+use Rattle.explain_rules.proofs.Line.{the-type}
 use Rattle.explain_rules.specs.Explained.{kindOfLine, lineWords, goesOn, ended, linesWords, explained}
 use Rattle.explain_columns.specs.Until.{except}
 
@@ -43,23 +47,36 @@ module _ (s : List ℕ) (at : ℕ) (h : at < length s) (e : ℕ) (q : e ≡ at +
 
 -- ==== the end of what was said
 
-pub end-last : (s : List ℕ) (at : ℕ) → length s ≤ at → (old : List ℕ) (to : ℕ) (new : List ℕ) (r : ℕ) → Clipped old to (10 ∷ []) new r
-    → Clipped old to (ended (linesOf (drop at s))) new r
+-- the kinds of lines that have one of their own, by their places among all
+abbrev tags : List ℕ
+tags = 0 ∷ 1 ∷ 2 ∷ 3 ∷ 4 ∷ 7 ∷ []
+
+pub own-line : (k : Line) → OneOf tags (tagOf the-type k) → false ≡ goesOn k
+unfolding goesOn
+own-line Field h = refl
+own-line Identifier h = refl
+own-line Version h = refl
+own-line NoResult h = refl
+own-line Method h = refl
+own-line Reason h = absurd (miss tags 5 tt h)
+own-line Property h = absurd (miss tags 6 tt h)
+own-line Other h = refl
+
+pub behind-none : (s : List ℕ) (at : ℕ) → length s ≤ at → ended (linesOf (drop at s)) ≡ 10 ∷ []
 unfolding ended
-end-last s at h old to new r w = rw (lines-none s at h) w
+behind-none s at h = rw (lines-none s at h)
 
-module _ (s : List ℕ) (at : ℕ) (h : at < length s) (e : ℕ) (q : e ≡ at + run (except 10) (drop at s)) (k : Line) (p : k ≡ kindOfLine (span s at e)) (b : Bool) (g : b ≡ goesOn k)
-    (old : List ℕ) (to : ℕ) where
-  says : goesOn (kindOfLine (span s at e)) ≡ b
-  says = sym (g ∙ ap goesOn p)
+pub behind-by : (s : List ℕ) (at : ℕ) → at < length s → (e : ℕ) → e ≡ at + run (except 10) (drop at s) → (k : Line) → k ≡ kindOfLine (span s at e) → (b : Bool) → b ≡ goesOn k
+    → ended (linesOf (drop at s)) ≡ cond b [] (10 ∷ [])
+unfolding ended
+behind-by s at h e q k p b g = rw (line-first s at h e q, ← p, ← g)
 
-  pub end-none : b ≡ true → to < 2 ^ 64 → Clipped old to (ended (linesOf (drop at s))) old to
-  unfolding ended
-  end-none t l = rw (line-first s at h e q, says, t) (record { place = omega arith; bytes = refl })
+module _ (ls : List (List ℕ)) (b : Bool) (q : ended ls ≡ cond b [] (10 ∷ [])) (old : List ℕ) (to : ℕ) where
+  pub end-none : b ≡ true → to < 2 ^ 64 → Clipped old to (ended ls) old to
+  end-none t l = rw (q, t) (record { place = omega arith; bytes = refl })
 
-  pub end-here : b ≡ false → (new : List ℕ) (r : ℕ) → Clipped old to (10 ∷ []) new r → Clipped old to (ended (linesOf (drop at s))) new r
-  unfolding ended
-  end-here t new r w = rw (line-first s at h e q, says, t) w
+  pub end-here : b ≡ false → (new : List ℕ) (r : ℕ) → Clipped old to (10 ∷ []) new r → Clipped old to (ended ls) new r
+  end-here t new r w = rw (q, t) w
 
 -- ==== all lines
 

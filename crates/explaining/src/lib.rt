@@ -5,6 +5,8 @@
 // whole text, at most the largest place, which no buffer reaches. Every byte that it stores is LF or one of 32 to 126.
 use explain_rules::Line;
 ghost use mathlib.Core.Path.{_≡_};
+ghost use mathlib.Core.Bool.{cond};
+ghost use mathlib.Core.List.{[], _∷_};
 ghost use Prim.Native.Nat.{_+_, min};
 ghost use lib.ListN.{length, drop};
 ghost use Rattle.sequences.specs.Stored.{Clipped};
@@ -16,26 +18,28 @@ fn goes_on(k: Line) -> bool
     ensures { λ r. ⌜ r ≡ goesOn k ⌝ }
 {
     match k {
-        Line::Field => false,
-        Line::Identifier => false,
-        Line::Version => false,
-        Line::NoResult => false,
-        Line::Method => false,
         Line::Reason => true,
         Line::Property => true,
-        Line::Other => false,
+        _ => false,
     }
+}
+
+// Whether the line at a place stands in the line before it; where none is left, it does not.
+fn is_behind(s: &[u8], at: usize) -> bool
+    ensures { λ r. ⌜ ended (linesOf (drop at (now (s .entry)))) ≡ cond r [] (10 ∷ []) ⌝ }
+{
+    if at >= s.len() {
+        return false;
+    }
+    let e = explain_columns::until(s, at, b'\n');
+    goes_on(explain_columns::kind_of_line(&s[at..e]))
 }
 
 // The end of what was said before a place, where lines start or none is left.
 fn put_end(s: &[u8], at: usize, out: &mut [u8], to: usize) -> usize
     ensures { λ r. ⌜ Clipped (now (out .entry)) to (ended (linesOf (drop at (now (s .entry))))) (now (out .exit)) r ⌝ }
 {
-    if at >= s.len() {
-        return texts::put_byte(b'\n', out, to);
-    }
-    let e = explain_columns::until(s, at, b'\n');
-    if goes_on(explain_columns::kind_of_line(&s[at..e])) {
+    if is_behind(s, at) {
         return to;
     }
     texts::put_byte(b'\n', out, to)

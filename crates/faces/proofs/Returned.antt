@@ -9,15 +9,11 @@ use Rattle.body.specs.Answers as reporting
 use Rattle.compose.specs.Compose as compose
 use Rattle.compose.specs.declared.Written.{Written}
 use Rattle.compose.specs.Answers as writing
-use Rattle.arc_rules.specs.declared.Judged.{Judged}
-use Rattle.arc_rules.specs.Chain as arc
-use Rattle.arc_rules.specs.Answers as judging
 use Rattle.faces.specs.declared.StripFace.{StripFace}
 use Rattle.faces.specs.declared.ReportFace.{ReportFace}
 use Rattle.faces.specs.declared.WriteFace.{WriteFace}
-use Rattle.faces.specs.declared.JudgeFace.{JudgeFace}
-use Rattle.faces.specs.Faces.{stripFace, reportFace, writeFace, judgeFace}
-use Rattle.faces.specs.Made.{strippedFace, reportedFace, writtenFace, judgedFace}
+use Rattle.faces.specs.Faces.{stripFace, reportFace, writeFace}
+use Rattle.faces.specs.Made.{strippedFace, reportedFace, writtenFace}
 
 pub strip-faced : (f : StripFace) (r : Stripped) (a : strip.Answer) → r ≡ stripping.answerOf a → f ≡ strippedFace r → f ≡ stripFace a
 strip-faced f r a e h = rw (h, e)
@@ -27,6 +23,3 @@ report-faced f r a e h = rw (h, e)
 
 pub write-faced : (f : WriteFace) (r : Written) (a : compose.Answer) → r ≡ writing.answerOf a → f ≡ writtenFace r → f ≡ writeFace a
 write-faced f r a e h = rw (h, e)
-
-pub judge-faced : (f : JudgeFace) (r : Judged) (a : arc.Answer) → r ≡ judging.answerOf a → f ≡ judgedFace r → f ≡ judgeFace a
-judge-faced f r a e h = rw (h, e)

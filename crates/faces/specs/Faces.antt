@@ -1,18 +1,13 @@
 -- What the functions for hosts return, by the definitions of the library's calls. Assumes nothing: these are definitions.
-use Prim.Native.Nat.{ℕ}
-use mathlib.Core.Bool.{cond}
-use lib.Dec.{eqb}
 use lib.ListN.{length}
 use Rattle.strip_rules.specs.Strip as strip
 use Rattle.body.specs.Report as report
-use Rattle.arc_rules.specs.Chain as arc
 use Rattle.compose.specs.Compose as compose
 use Rattle.fields_rules.specs.declared.Step.{Step}
 use Rattle.fields_rules.specs.declared.Step.the-variants.{Field, Last}
 use Rattle.faces.specs.declared.StripFace.{StripFace}
 use Rattle.faces.specs.declared.ReportFace.{ReportFace}
 use Rattle.faces.specs.declared.WriteFace.{WriteFace}
-use Rattle.faces.specs.declared.JudgeFace.{JudgeFace}
 use Rattle.faces.specs.declared.NextFace.{NextFace}
 
 abbrev pub stripFace : strip.Answer → StripFace
@@ -23,24 +18,6 @@ reportFace a = record { number = a .number; place = a .place; written = length (
 
 abbrev pub writeFace : compose.Answer → WriteFace
 writeFace a = record { number = a .number; place = a .place; written = length (a .written) }
-
--- there is an oldest-pass exactly where the status is pass
-abbrev pub hasOldestPass : ℕ → ℕ
-hasOldestPass status = cond (eqb status 1) 1 0
-
-abbrev pub judgeFace : arc.Answer → JudgeFace
-judgeFace a =
-    record {
-      number = a .number;
-      outcome = a .outcome;
-      reason = a .reason;
-      status = a .status;
-      «has_oldest_pass» = hasOldestPass (a .status);
-      place = a .place;
-      field = a .field;
-      instances = a .instances;
-      «oldest_pass» = a .oldest;
-    }
 
 abbrev pub nextFace : Step → NextFace
 nextFace (Field a n b e) = record { number = 0; found = 1; place = 0; start = a; «name_end» = n; «body_start» = b; end = e }

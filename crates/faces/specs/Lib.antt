@@ -1,4 +1,3 @@
 pub mod Faces
 pub mod Made
-pub mod Whose
 pub mod Version

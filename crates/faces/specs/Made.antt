@@ -1,14 +1,10 @@
 -- The structs for hosts, made from the structs that the library's calls return. Assumes nothing: these are definitions.
-use Prim.Native.Nat.{ℕ}
 use Rattle.strip_rules.specs.declared.Stripped.{Stripped}
 use Rattle.body.specs.declared.Reported.{Reported}
 use Rattle.compose.specs.declared.Written.{Written}
-use Rattle.arc_rules.specs.declared.Judged.{Judged}
 use Rattle.faces.specs.declared.StripFace.{StripFace}
 use Rattle.faces.specs.declared.ReportFace.{ReportFace}
 use Rattle.faces.specs.declared.WriteFace.{WriteFace}
-use Rattle.faces.specs.declared.JudgeFace.{JudgeFace}
-use Rattle.faces.specs.Faces.{hasOldestPass}
 
 abbrev pub strippedFace : Stripped → StripFace
 strippedFace s = record { number = s .number; place = s .place; kept = s .kept; removed = s .removed; fields = s .fields }
@@ -18,21 +14,3 @@ reportedFace a = record { number = a .number; place = a .place; written = a .wri
 
 abbrev pub writtenFace : Written → WriteFace
 writtenFace w = record { number = w .number; place = w .place; written = w .written }
-
--- with the code of whether there is an oldest-pass
-abbrev pub judgedWith : Judged → ℕ → JudgeFace
-judgedWith j has =
-    record {
-      number = j .number;
-      outcome = j .outcome;
-      reason = j .reason;
-      status = j .status;
-      «has_oldest_pass» = has;
-      place = j .place;
-      field = j .field;
-      instances = j .instances;
-      «oldest_pass» = j .oldest;
-    }
-
-abbrev pub judgedFace : Judged → JudgeFace
-judgedFace j = judgedWith j (hasOldestPass (j .status))

@@ -11,9 +11,6 @@
 //
 // Cost: since a place may be made up, every step goes over the block from the front, up to the field that it gives; so does `passed`, which
 // has to find the field's end. A host that has a field goes on by `moved` to its end, which costs nothing by itself.
-use answer_numbers::Number;
-use block::Next;
-use block::Walk;
 use fields_rules::Step;
 ghost use mathlib.Core.Path.{_≡_};
 ghost use Rattle.fields_rules.specs.Steps.{stepFrom, pastFrom};
@@ -22,45 +19,7 @@ ghost use Rattle.fields_rules.specs.Steps.{stepFrom, pastFrom};
 pub fn field_from(block: &[u8], from: usize) -> Step
     ensures { λ r. ⌜ r ≡ stepFrom (now (block .entry)) from ⌝ }
 {
-    if lexis::too_long(block) {
-        return Step::Last {
-            number: Number::TOO_LONG,
-            place: 0,
-        };
-    }
-    let fresh = Walk::fresh();
-    let mut at = fresh.at;
-    let mut count = fresh.count;
-    loop {
-        match block::next_field(block, Walk { at, count }) {
-            Next::Field {
-                start,
-                name_end,
-                body_start,
-                end,
-            } => {
-                if from <= start {
-                    return Step::Field {
-                        start,
-                        name_end,
-                        body_start,
-                        end,
-                    };
-                }
-                at = end;
-                count += 1;
-            }
-            Next::End => {
-                return Step::Last {
-                    number: Number::DONE,
-                    place: 0,
-                };
-            }
-            Next::Refused { number, place } => {
-                return Step::Last { number, place };
-            }
-        }
-    }
+    field_steps::step_from(block, from)
 }
 
 // The end of the field that a step from a place gives; the place itself where that step gives the last answer.

@@ -6,6 +6,7 @@ use lib.ListN.{length}
 use Rattle.reading.specs.Texts.{bytes}
 use Rattle.reading.proofs.Cases.{case, Says}
 use Rattle.block_rules.proofs.Examples as block
+use Rattle.block_laws.proofs.Limits.{short}
 use Rattle.fields_rules.specs.declared.Step.the-variants.{Field, Last}
 use Rattle.fields_rules.specs.Steps.{given, firstFrom, stepFrom, pastFrom}
 use Rattle.fields_rules.specs.Whole.{stepsFrom, inOrder}
@@ -73,14 +74,10 @@ unfolding opened
 limit rest place e = rw (given, e)
 
 -- 4: 513 fields of four bytes. The 512th is given, the 513th is not; 512 are sound
-abbrev repeated : ℕ → List ℕ
-repeated zero = []
-repeated (suc n) = bytes "A:\r\n" ++ repeated n
-
-most : map (stepFrom (repeated 513)) (0 ∷ 2044 ∷ 2045 ∷ 2052 ∷ []) ≡ Field 0 1 2 4 ∷ Field 2044 2045 2046 2048 ∷ Last 4 2048 ∷ Last 4 2048 ∷ []
+most : map (stepFrom (short 513)) (0 ∷ 2044 ∷ 2045 ∷ 2052 ∷ []) ≡ Field 0 1 2 4 ∷ Field 2044 2045 2046 2048 ∷ Last 4 2048 ∷ Last 4 2048 ∷ []
 unfolding opened
 most = refl
 
-few : map (stepFrom (repeated 512)) (2044 ∷ 2045 ∷ []) ≡ Field 2044 2045 2046 2048 ∷ Last 0 0 ∷ []
+few : map (stepFrom (short 512)) (2044 ∷ 2045 ∷ []) ≡ Field 2044 2045 2046 2048 ∷ Last 0 0 ∷ []
 unfolding opened
 few = refl

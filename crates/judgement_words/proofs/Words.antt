@@ -1,6 +1,6 @@
 -- The words of a judgement, stored: each case of the definitions is a phrase of its function's text, and texts that are stored one after another. The premises are
 -- literally what a need is handed. Assumes nothing.
-use Prim.Native.Nat.{ℕ, zero, suc, _-_, _≤_, _<_, _^_}
+use Prim.Native.Nat.{ℕ, zero, suc, _≤_, _<_, _^_}
 use native.Mathlib.Omega.{arith}
 use mathlib.Core.Path.{_≡_, refl, sym}
 use mathlib.Core.Bool.{cond}
@@ -16,23 +16,15 @@ use Rattle.decimals_rules.specs.Decimals.{decimal}
 use Rattle.phrases.specs.Phrases.{start, phrase}
 use Rattle.arc_rules.specs.declared.Judged.{Judged}
 use Rattle.judging_rules.specs.Judgement.{reasonWords, fieldWords, setsWords, oldestWords, statusWords, chainWords}
-use Rattle.judgement_words.specs.Internal.{reasonPlace, numbered, setsOn, passWords, builtWords}
+use Rattle.judgement_words.specs.Internal.{numbered, setsOn, passWords, builtWords}
 
 -- ==== reasons
 
-pub place-none : (n : ℕ) → n ≡ 0 → 4 ≡ reasonPlace n
-unfolding reasonPlace
-place-none n a = rw (eq-eqb n 0 a)
-
-pub place-some : (n : ℕ) → (n ≡ 0 → ⊥) → n - 1 ≡ reasonPlace n
-unfolding reasonPlace
-place-some n a = rw (ne-eqb n 0 a)
-
 abbrev reasons : List ℕ
-reasons = bytes "an ARC field can't be read|a kind of ARC field is there twice at one instance|an instance lacks a kind of ARC field|the last seal has cv=fail|a seal's cv is not the one that RFC 8617 prescribes"
+reasons = bytes "a seal's cv is not the one that RFC 8617 prescribes|an ARC field can't be read|a kind of ARC field is there twice at one instance|an instance lacks a kind of ARC field|the last seal has cv=fail|a seal's cv is not the one that RFC 8617 prescribes"
 
-reason-is : (n : ℕ) → phrase (reasonPlace n) reasons ≡ reasonWords n
-unfolding phrase start run reasonPlace reasonWords
+reason-is : (n : ℕ) → phrase n reasons ≡ reasonWords n
+unfolding phrase start run reasonWords
 reason-is zero = refl
 reason-is (suc zero) = refl
 reason-is (suc (suc zero)) = refl
@@ -40,19 +32,16 @@ reason-is (suc (suc (suc zero))) = refl
 reason-is (suc (suc (suc (suc zero)))) = refl
 reason-is (suc (suc (suc (suc (suc zero))))) = refl
 reason-is (suc (suc (suc (suc (suc (suc n)))))) =
-    let y : suc (suc (suc (suc (suc (suc n))))) - 1 ≡ suc (suc (suc (suc (suc n)))) = omega arith in
     rw (
-      ne-eqb (suc (suc (suc (suc (suc (suc n)))))) 0 (λ (e : suc (suc (suc (suc (suc (suc n))))) ≡ 0). omega (arith, e)),
-      y,
       ne-eqb (suc (suc (suc (suc (suc (suc n)))))) 1 (λ (e : suc (suc (suc (suc (suc (suc n))))) ≡ 1). omega (arith, e)),
       ne-eqb (suc (suc (suc (suc (suc (suc n)))))) 2 (λ (e : suc (suc (suc (suc (suc (suc n))))) ≡ 2). omega (arith, e)),
       ne-eqb (suc (suc (suc (suc (suc (suc n)))))) 3 (λ (e : suc (suc (suc (suc (suc (suc n))))) ≡ 3). omega (arith, e)),
       ne-eqb (suc (suc (suc (suc (suc (suc n)))))) 4 (λ (e : suc (suc (suc (suc (suc (suc n))))) ≡ 4). omega (arith, e)),
     )
 
-module _ (n p : ℕ) (e : p ≡ reasonPlace n) (old : List ℕ) (to : ℕ) (new : List ℕ) (r : ℕ) where
-  pub reason-put : Clipped old to (phrase p reasons) new r → Clipped old to (reasonWords n) new r
-  reason-put w = rw (← reason-is n) (rw e at w)
+module _ (n : ℕ) (old : List ℕ) (to : ℕ) (new : List ℕ) (r : ℕ) where
+  pub reason-put : Clipped old to (phrase n reasons) new r → Clipped old to (reasonWords n) new r
+  reason-put w = rw (← reason-is n) w
 
 -- ==== phrases with a number
 
@@ -62,18 +51,21 @@ field-is zero = refl
 field-is (suc zero) = refl
 field-is (suc (suc n)) = rw (ne-eqb (suc (suc n)) 0 (λ (e : suc (suc n) ≡ 0). omega (arith, e)))
 
-since-is : (n : ℕ) → numbered (bytes ", and so is every other signature|; oldest-pass is ") n ≡ oldestWords n
+abbrev passes : List ℕ
+passes = bytes "pass: every seal and the last signature are good, and so is every other signature|pass: every seal and the last signature are good; oldest-pass is "
+
+pass-is : (n : ℕ) → numbered passes n ≡ passWords n
 unfolding phrase start run numbered oldestWords
-since-is zero = refl
-since-is (suc zero) = refl
-since-is (suc (suc n)) = rw (ne-eqb (suc (suc n)) 0 (λ (e : suc (suc n) ≡ 0). omega (arith, e)))
+pass-is zero = refl
+pass-is (suc zero) = refl
+pass-is (suc (suc n)) = rw (ne-eqb (suc (suc n)) 0 (λ (e : suc (suc n) ≡ 0). omega (arith, e)))
 
 module _ (n : ℕ) (old : List ℕ) (to : ℕ) (new : List ℕ) (r : ℕ) where
   pub field-put : Clipped old to (numbered (bytes "|, field ") n) new r → Clipped old to (fieldWords n) new r
   field-put w = rw (← field-is n) w
 
-  pub since-put : Clipped old to (numbered (bytes ", and so is every other signature|; oldest-pass is ") n) new r → Clipped old to (oldestWords n) new r
-  since-put w = rw (← since-is n) w
+  pub pass-put : Clipped old to (numbered passes n) new r → Clipped old to (passWords n) new r
+  pass-put w = rw (← pass-is n) w
 
   pub no-number : (all : List ℕ) → Clipped old to (phrase n all) new r → n ≡ 0 → Clipped old to (numbered all n) new r
   unfolding numbered

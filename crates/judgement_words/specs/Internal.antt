@@ -1,5 +1,5 @@
 -- The words of a judgement in parts, which private functions write. No public contract cites these. Assumes nothing: these are definitions.
-use Prim.Native.Nat.{ℕ, _-_}
+use Prim.Native.Nat.{ℕ}
 use mathlib.Core.Bool.{cond}
 use mathlib.Core.List.{List, [], _++_}
 use lib.Dec.{eqb}
@@ -8,10 +8,6 @@ use Rattle.decimals_rules.specs.Decimals.{decimal}
 use Rattle.phrases.specs.Phrases.{phrase}
 use Rattle.arc_rules.specs.declared.Judged.{Judged}
 use Rattle.judging_rules.specs.Judgement.{setsWords, oldestWords, statusWords}
-
--- the reasons from 1 on, and what is none with the last of them
-unfoldable pub reasonPlace : ℕ → ℕ
-reasonPlace n = cond (eqb n 0) 4 (n - 1)
 
 -- one phrase for 0, and for another number the other phrase and its digits
 unfoldable pub numbered : List ℕ → ℕ → List ℕ

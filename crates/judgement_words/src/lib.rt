@@ -3,29 +3,18 @@
 // The functions that write are handed a buffer and a place in it, any place. They store as much of their text as there is room for from there on, change no
 // other byte, and return the place after the whole text, at most the largest place, which no buffer reaches.
 use arc_rules::Judged;
-ghost use mathlib.Core.Path.{_≡_};
 ghost use mathlib.Core.List.{_++_};
 ghost use Rattle.sequences.specs.Stored.{Clipped};
-ghost use Rattle.judging_rules.specs.Judgement.{reasonWords, fieldWords, oldestWords, statusWords, chainWords};
-ghost use Rattle.judgement_words.specs.Internal.{reasonPlace, numbered, setsOn, passWords, builtWords};
+ghost use Rattle.judging_rules.specs.Judgement.{reasonWords, fieldWords, statusWords, chainWords};
+ghost use Rattle.judgement_words.specs.Internal.{numbered, setsOn, passWords, builtWords};
 
-// The place of a reason among the phrases of `put_reason`.
-fn reason_place(n: u8) -> usize
-    ensures { λ r. ⌜ r ≡ reasonPlace n ⌝ }
-{
-    if n == 0 {
-        return 4;
-    }
-    n as usize - 1
-}
-
-// Why a chain is failed.
+// Why a chain is failed; what is no reason is told as the last of them.
 fn put_reason(n: u8, out: &mut [u8], to: usize) -> usize
     ensures { λ r. ⌜ Clipped (now (out .entry)) to (reasonWords n) (now (out .exit)) r ⌝ }
 {
     phrases::put_phrase(
-        b"an ARC field can't be read|a kind of ARC field is there twice at one instance|an instance lacks a kind of ARC field|the last seal has cv=fail|a seal's cv is not the one that RFC 8617 prescribes",
-        reason_place(n),
+        b"a seal's cv is not the one that RFC 8617 prescribes|an ARC field can't be read|a kind of ARC field is there twice at one instance|an instance lacks a kind of ARC field|the last seal has cv=fail|a seal's cv is not the one that RFC 8617 prescribes",
+        n as usize,
         out,
         to,
     )
@@ -57,24 +46,16 @@ fn put_sets(n: usize, out: &mut [u8], to: usize) -> usize
     phrases::put_phrase(b" sets; | set; | sets; ", n, out, a)
 }
 
-// The oldest-pass in words.
-fn put_since(n: usize, out: &mut [u8], to: usize) -> usize
-    ensures { λ r. ⌜ Clipped (now (out .entry)) to (oldestWords n) (now (out .exit)) r ⌝ }
-{
-    put_numbered(
-        b", and so is every other signature|; oldest-pass is ",
-        n,
-        out,
-        to,
-    )
-}
-
-// A chain that passes.
+// A chain that passes, with the oldest-pass.
 fn put_pass(oldest: usize, out: &mut [u8], to: usize) -> usize
     ensures { λ r. ⌜ Clipped (now (out .entry)) to (passWords oldest) (now (out .exit)) r ⌝ }
 {
-    let a = texts::put_part(b"pass: every seal and the last signature are good", out, to);
-    put_since(oldest, out, a)
+    put_numbered(
+        b"pass: every seal and the last signature are good, and so is every other signature|pass: every seal and the last signature are good; oldest-pass is ",
+        oldest,
+        out,
+        to,
+    )
 }
 
 // What the verdicts make of a chain that is built.

@@ -1,9 +1,8 @@
 // Our own list of identifiers: its entries one after the other, and whether it is good (else number 5).
-use lexis_rules::Class;
 ghost use mathlib.Core.Path.{_≡_};
 ghost use Prim.Native.Nat.{_+_};
 ghost use lib.ListN.{drop};
-ghost use Rattle.authserv_rules.specs.OwnList.{entryText, entry, ownList};
+ghost use Rattle.authserv_rules.specs.OwnList.{entry, ownList};
 ghost use Rattle.listing.specs.Steps.{freshEntries, listedAt, checkedOf};
 
 // Where a walk over a list of our own stands, and how many entries it has passed.
@@ -33,37 +32,11 @@ pub enum Listed {
     Bad { place: usize },
 }
 
-// The end of the text of an entry: each turn passes a run of visible bytes, and then a sequence of UTF-8.
-fn text_from(s: &[u8], at: usize) -> usize
-    ensures { λ r. ⌜ r ≡ at + entryText (drop at (now (s .entry))) ⌝ }
-{
-    let mut i = at;
-    loop {
-        let e = items::run_end(s, i, Class::Visible);
-        let n = entry_bytes::utf8::sequence_at(s, e);
-        if n == 0 {
-            return e;
-        }
-        i = e + n;
-    }
-}
-
-// The same; an entry of ASCII alone ends with its first run.
-fn entry_text(s: &[u8], at: usize) -> usize
-    ensures { λ r. ⌜ r ≡ at + entryText (drop at (now (s .entry))) ⌝ }
-{
-    let e = entry_bytes::visible::visible_end(s, at);
-    if reading::byte(s, e, 0) < 128 {
-        return e;
-    }
-    text_from(s, e)
-}
-
 // The end of an entry with its LF: the place itself where it is bad.
 fn entry_end(s: &[u8], at: usize) -> usize
     ensures { λ r. ⌜ r ≡ at + entry (drop at (now (s .entry))) ⌝ }
 {
-    let e = entry_text(s, at);
+    let e = entry_texts::entry_text(s, at);
     if e == at {
         return at;
     }

@@ -1,15 +1,22 @@
 -- The parts of a line, stored one after another, are the line stored. The premises are literally what a need is handed. Assumes nothing.
 use Prim.Native.Nat.{ℕ, _<_, _^_}
 use native.Mathlib.Omega.{arith}
-use mathlib.Core.Path.{_≡_}
-use mathlib.Core.List.{List}
+use mathlib.Core.Path.{_≡_, refl, ap, _∙_, subst}
+use mathlib.Core.List.{List, [], _∷_}
+use denote.Enum.Declared.{tagOf}
+use types.Run.{OneOf, miss}
 use lib.ListN.{length}
 use Rattle.sequences.specs.Stored.{Clipped}
 use Rattle.sequences.proofs.Clips.{clipped-then, clipped-long}
 use Rattle.reading.specs.Texts.{bytes}
+use Rattle.reading.specs.Readers.{run}
+use Rattle.phrases.specs.Phrases.{start, phrase}
 use Rattle.decimals_rules.specs.Decimals.{decimal}
 use Rattle.messages_rules.specs.declared.Ending.{Ending}
+use Rattle.messages_rules.specs.declared.Ending.the-variants.{Done, Usage, ListClosed, ListUnread, InputUnread, InputTooLong, OutputTooLong, Unwritten, VerdictsRefused, Refused, LinesRefused}
+use Rattle.messages_rules.proofs.Ending.{the-type}
 use Rattle.messages_rules.specs.Messages.{meaning, linesMeaning, opening, closing, refusalLine, linesRefusal, endingLine}
+use Rattle.messages.specs.Internal.{tolds, toldBy}
 
 -- ==== the line
 
@@ -30,6 +37,33 @@ module _ (old : List ℕ) (l : length old < 2 ^ 64) (to : ℕ) (o : List ℕ) (i
     refusal-put place list v q k x new r w =
         clipped-then (omega arith) u (clipped-then (omega (arith, clipped-long u)) v (clipped-then (omega (arith, clipped-long u, clipped-long v)) x w))
 
--- the line of an ending, by the ending that it is
+-- ==== the line of an ending
+
+-- that of a refusal, by the ending that it is
 pub ending-put : (e f : Ending) → e ≡ f → (list old : List ℕ) (to : ℕ) (new : List ℕ) (r : ℕ) → Clipped old to (endingLine f list) new r → Clipped old to (endingLine e list) new r
 ending-put e f q list old to new r w = rw q w
+
+-- the endings that are told by one phrase, by their places among all
+abbrev tags : List ℕ
+tags = 0 ∷ 1 ∷ 2 ∷ 3 ∷ 4 ∷ 5 ∷ 6 ∷ 7 ∷ 8 ∷ []
+
+abbrev Told : Ending → Type 0
+Told e = OneOf tags (tagOf the-type e)
+
+told-line : (e : Ending) (list : List ℕ) → Told e → phrase (toldBy e) tolds ≡ endingLine e list
+unfolding endingLine toldBy phrase start run
+told-line Done list k = refl
+told-line Usage list k = refl
+told-line ListClosed list k = refl
+told-line ListUnread list k = refl
+told-line InputUnread list k = refl
+told-line InputTooLong list k = refl
+told-line OutputTooLong list k = refl
+told-line Unwritten list k = refl
+told-line VerdictsRefused list k = refl
+told-line (Refused number place) list k = absurd (miss tags 9 tt k)
+told-line (LinesRefused number place) list k = absurd (miss tags 10 tt k)
+
+pub told-put : (e : Ending) → Told e → (n : ℕ) → n ≡ toldBy e → (list old : List ℕ) (to : ℕ) (new : List ℕ) (r : ℕ) → Clipped old to (phrase n tolds) new r
+    → Clipped old to (endingLine e list) new r
+told-put e k n h list old to new r w = subst (λ (t : List ℕ). Clipped old to t new r) (ap (λ (m : ℕ). phrase m tolds) h ∙ told-line e list k) w

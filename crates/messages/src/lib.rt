@@ -7,10 +7,11 @@
 // where all of the output has been written. It is handed a buffer and a place in it, any place, stores as much of the line as there is room
 // for from there on, changes no other byte, and returns the place after the whole line, at most the largest place, which no buffer reaches.
 use messages_rules::Ending;
+ghost use mathlib.Core.Path.{_≡_};
 ghost use Rattle.sequences.specs.Stored.{Clipped};
 ghost use Rattle.phrases.specs.Phrases.{phrase};
 ghost use Rattle.messages_rules.specs.Messages.{opening, closing, refusalLine, linesRefusal, endingLine};
-ghost use Rattle.messages.specs.Internal.{tolds};
+ghost use Rattle.messages.specs.Internal.{tolds, toldBy};
 
 // The front of the line of a refusal.
 fn put_opening(number: u8, out: &mut [u8], to: usize) -> usize
@@ -60,21 +61,32 @@ fn put_told(n: usize, out: &mut [u8], to: usize) -> usize
     )
 }
 
+// Which phrase tells an ending, counted from 0; the two refusals, which have a number and a place of their own, are told by none.
+fn told(ending: Ending) -> usize
+    ensures { λ r. ⌜ r ≡ toldBy ending ⌝ }
+{
+    match ending {
+        Ending::Done => 0,
+        Ending::Usage => 1,
+        Ending::ListClosed => 2,
+        Ending::ListUnread => 3,
+        Ending::InputUnread => 4,
+        Ending::InputTooLong => 5,
+        Ending::OutputTooLong => 6,
+        Ending::Unwritten => 7,
+        Ending::VerdictsRefused => 8,
+        Ending::Refused { number, place } => 9,
+        Ending::LinesRefused { number, place } => 9,
+    }
+}
+
 // The line of an ending; `list` is our own list, which a refusal by 5 speaks of.
 pub fn put_ending(ending: Ending, list: &[u8], out: &mut [u8], to: usize) -> usize
     ensures { λ r. ⌜ Clipped (now (out .entry)) to (endingLine ending (now (list .entry))) (now (out .exit)) r ⌝ }
 {
     match ending {
-        Ending::Done => put_told(0, out, to),
-        Ending::Usage => put_told(1, out, to),
-        Ending::ListClosed => put_told(2, out, to),
-        Ending::ListUnread => put_told(3, out, to),
-        Ending::InputUnread => put_told(4, out, to),
-        Ending::InputTooLong => put_told(5, out, to),
-        Ending::OutputTooLong => put_told(6, out, to),
-        Ending::Unwritten => put_told(7, out, to),
-        Ending::VerdictsRefused => put_told(8, out, to),
         Ending::Refused { number, place } => put_refusal(number, place, list, out, to),
         Ending::LinesRefused { number, place } => put_lines_refusal(number, place, out, to),
+        _ => put_told(told(ending), out, to),
     }
 }

@@ -1,15 +1,12 @@
 // The face for hosts: functions for C and for Rust over the library's calls, with the same answers.
 //
-// A slice is a pointer and a length. The structs that are returned, and how they are made from answers, are those of `faces`.
-use answer_numbers::Number;
-use authserv_rules::Own;
-use faces::JudgeFace;
+// A slice is a pointer and a length. The structs that are returned, and how they are made from answers, are those of `faces`, `judge_faces` and `whose_faces`.
 use faces::NextFace;
 use faces::ReportFace;
 use faces::StripFace;
-use faces::WhoseFace;
 use faces::WriteFace;
-use listing::Checked;
+use judge_faces::JudgeFace;
+use whose_faces::WhoseFace;
 ghost use mathlib.Core.Path.{_≡_};
 ghost use lib.ListN.{length};
 ghost use Rattle.strip_rules.specs.Strip.{strip};
@@ -20,11 +17,9 @@ ghost use Rattle.arc_rules.specs.Chain.{judge};
 ghost use Rattle.fields_rules.specs.Steps.{stepFrom};
 ghost use Rattle.compose.specs.Compose.{compose};
 ghost use Rattle.compose.specs.Answers as writing;
-ghost use Rattle.authserv_rules.specs.OwnList.{ownList};
-ghost use Rattle.authserv_rules.specs.Identifier.{identifier};
-ghost use Rattle.authserv_rules.specs.Listed.{ownOf};
-ghost use Rattle.faces.specs.Faces.{stripFace, reportFace, writeFace, judgeFace, nextFace};
-ghost use Rattle.faces.specs.Whose.{whose};
+ghost use Rattle.faces.specs.Faces.{stripFace, reportFace, writeFace, nextFace};
+ghost use Rattle.judge_faces.specs.Faces.{judgeFace};
+ghost use Rattle.whose_faces.specs.Whose.{whose};
 ghost use Rattle.faces.specs.Version.{versionNumber};
 
 // The block without the Authentication-Results fields that speak in our own name or in none (`strip::strip`).
@@ -59,7 +54,7 @@ pub extern "C" fn orbendash_write(lines: &[u8], out: &mut [u8]) -> WriteFace
 pub extern "C" fn orbendash_judge(s: &[u8], verdicts: &[u8]) -> JudgeFace
     ensures { λ r. ⌜ r ≡ judgeFace (judge (now (s .entry)) (now (verdicts .entry))) ⌝ }
 {
-    faces::judge_face(arc::judge(s, verdicts))
+    judge_faces::judge_face(arc::judge(s, verdicts))
 }
 
 // A step of the walking reader from a place: a field, or the last answer (`fields::field_from`).
@@ -70,32 +65,12 @@ pub extern "C" fn orbendash_next_field(s: &[u8], place: usize) -> NextFace
     faces::next_face(fields::field_from(s, place))
 }
 
-// Whose the identifier of a body is, by a good list. One without two hyphens in a row is compared as it stands.
-fn owner_of(list: &[u8], body: &[u8]) -> Own
-    requires { ⌜ ownList (now list) .number ≡ 0 ⌝ }
-    ensures { λ r. ⌜ r ≡ ownOf (ownList (now (list .entry)) .items) (identifier (now (body .entry))) ⌝ }
-{
-    if hyphens::has_double_hyphen(list) {
-        return ownlist::whose(list, body);
-    }
-    ownlist::whose_spelled(list, body)
-}
-
-// Whose the identifier of a field body is: ours, another's, or unreadable (`ownlist::whose`). 1 where the body is too long, then 5 where the list is bad.
+// Whose the identifier of a field body is: ours, another's, or unreadable (`owners::whose`). 1 where the body is too long, then 5 where the list is bad.
 #[no_mangle]
 pub extern "C" fn orbendash_whose(list: &[u8], body: &[u8]) -> WhoseFace
     ensures { λ r. ⌜ r ≡ whose (now (list .entry)) (now (body .entry)) ⌝ }
 {
-    if lexis::too_long(body) {
-        return faces::refuse_whose(Number::TOO_LONG, 0);
-    }
-    match listing::check_list(list) {
-        Checked::Bad { place } => {
-            return faces::refuse_whose(Number::BAD_LIST, place);
-        }
-        Checked::Good => {}
-    }
-    faces::whose_face(owner_of(list, body))
+    owners::whose(list, body)
 }
 
 // The library's version as one number; that of the header it was built with is ORBENDASH_VERSION_NUMBER.

@@ -26,12 +26,13 @@ use Rattle.lexis_rules.specs.Numbers.{numberOf, isOne}
 use Rattle.lexis_rules.specs.Words.{counted}
 use Rattle.lexis_laws.proofs.VersionNumbers.{leading-le, number-counted}
 use Rattle.authserv.specs.declared.Identifier.the-variants.{Readable}
-use Rattle.authserv.specs.declared.Version.the-variants.{Absent, Stated}
+use Rattle.header_versions.specs.declared.Version.the-variants.{Absent, Stated}
 use Rattle.authserv_rules.specs.Identifier.{identifier}
 use Rattle.authserv_rules.specs.Version.{stated, headerVersion}
-use Rattle.authserv.specs.Answers.{identifierAt, textOf, versionFrom, versionAt, versionGot}
+use Rattle.authserv.specs.Answers.{identifierAt, textOf}
+use Rattle.header_versions.specs.Answers.{versionFrom, versionAt, versionGot}
 use Rattle.authserv.proofs.Identifiers.{identifier-found, identifier-inside}
-use Rattle.authserv.proofs.Versions.{version-got}
+use Rattle.header_versions.proofs.Versions.{version-got}
 use Rattle.resinfo_rules.specs.Results.{Result}
 use Rattle.sequences.specs.Spans.{span}
 use Rattle.body.specs.Body.{Head, Reading, malformed, newer, noResult, results, head, resinfos, wordNone, payload, headed, reading}

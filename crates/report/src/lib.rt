@@ -11,9 +11,9 @@
 // returns zero counts; bytes past those written stay unchanged.
 use answer_numbers::Number;
 use authserv::Identifier;
-use authserv::Version;
 use body::Reported;
 use first_pass::Copy;
+use header_versions::Version;
 ghost use mathlib.Core.Path.{_≡_};
 ghost use mathlib.Core.List.{[]};
 ghost use Prim.Native.Nat.{_≤_, _^_};
@@ -95,7 +95,7 @@ fn put_version_one(s: &[u8], at: usize, out: &mut [u8], to: usize) -> Reported
     requires { ⌜ (length (now s) ≤ byteLimit) × (to ≤ 2 ^ 32) ⌝ }
     ensures { λ r. ⌜ Behind (headed (record { identifier = []; version = bytes "1" }) (drop at (now (s .entry)))) (now (out .entry)) to (now (out .exit)) r ⌝ }
 {
-    if authserv::delimited(s, at) {
+    if delimiters::delimited(s, at) {
         return put_payload(s, at, out, to);
     }
     refuse(Number::MALFORMED, 0)
@@ -106,7 +106,7 @@ fn put_newer(s: &[u8], a: usize, e: usize, out: &mut [u8], to: usize) -> Reporte
     requires { ⌜ ((length (now s) ≤ byteLimit) × (to ≤ 2 ^ 32)) × ((a ≤ e) × (e ≤ length (now s))) ⌝ }
     ensures { λ r. ⌜ Behind (newerAt (now (s .entry)) a e) (now (out .entry)) to (now (out .exit)) r ⌝ }
 {
-    if authserv::delimited(s, e) {
+    if delimiters::delimited(s, e) {
         let n = report_lines::put_version(&s[a..e], out, to);
         return Reported {
             number: Number::NEWER,
@@ -123,7 +123,7 @@ fn put_headed(s: &[u8], at: usize, out: &mut [u8], to: usize) -> Reported
     requires { ⌜ (length (now s) ≤ byteLimit) × (to ≤ 2 ^ 32) ⌝ }
     ensures { λ r. ⌜ Behind (headedAt (now (s .entry)) at) (now (out .entry)) to (now (out .exit)) r ⌝ }
 {
-    match authserv::version_at(s, at) {
+    match header_versions::version_at(s, at) {
         Version::Stated { start, end, number } => {
             if digit_runs::is_one(number) {
                 return put_version_one(s, end, out, to);

@@ -2,3 +2,4 @@ pub mod Sizes
 pub mod Whose
 pub mod Ways
 pub mod Headlines
+pub mod Limits

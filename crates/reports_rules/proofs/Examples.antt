@@ -1,6 +1,6 @@
 -- The report of a block at worked examples, computed: what each field adds, the numbers of the fields, the answers in order, and what is left in the
 -- lent buffer. Assumes nothing.
-use Prim.Native.Nat.{ℕ, zero, suc}
+use Prim.Native.Nat.{ℕ}
 use mathlib.Core.Path.{_≡_, refl}
 use mathlib.Core.List.{List, [], _∷_, _++_, map}
 use lib.ListN.{length}
@@ -10,11 +10,11 @@ use Rattle.reports_rules.specs.Reports.{Answer, reports}
 use Rattle.reports_rules.specs.Answers.{answerOf, leaves}
 use Rattle.reports_rules.proofs.Opened.{opened}
 
-abbrev says : List ℕ → Answer
+abbrev pub says : List ℕ → Answer
 says w = record { number = 0; place = 0; written = w }
 
 -- a refusal: a number and its place, nothing written
-abbrev refuses : ℕ → ℕ → Answer
+abbrev pub refuses : ℕ → ℕ → Answer
 refuses n p = record { number = n; place = p; written = [] }
 
 -- ==== what a field adds
@@ -122,18 +122,6 @@ blocks :
     ∷ [])
 unfolding opened
 blocks = refl
-
--- so many fields of four bytes
-abbrev short : ℕ → List ℕ
-short zero = []
-short (suc n) = bytes "A:\r\n" ++ short n
-
--- 4: the 513th field. The 512th is still told, with its number
-most :
-    map (λ (b : List ℕ). reports b [] 100) (short 513 ∷ short 512 ∷ (short 511 ++ bytes "Authentication-Results:\r\n") ∷ [])
-    ≡ refuses 4 2048 ∷ says [] ∷ says (bytes "field\t512\tunreadable\t7\t0\n") ∷ []
-unfolding opened
-most = refl
 
 -- 6: lent output shorter than the whole output; the place is the bytes needed. Of a block with nothing to tell none are
 rooms :

@@ -2,13 +2,13 @@
 -- the lines that it writes are the lines of that. By the theorems of the crates `methodspecs`, `result_parts` and `resinfo` on what was found. Assumes nothing.
 use Prim.Native.Nat.{ℕ, _+_, _≤_, _<_, _^_, min}
 use native.Mathlib.Omega.{arith}
-use mathlib.Core.Path.{_≡_, refl, sym, ap, _∙_, subst}
+use mathlib.Core.Path.{_≡_, refl, sym, ap, _∙_}
 use mathlib.Core.Bool.{Bool, true, false, _&&_, and-true, and-assoc}
 use mathlib.Core.Logic.{_⊎_, ⊎-elim}
 use mathlib.Core.List.{List, _∷_, _++_, map}
 use mathlib.Core.Option.{none, some}
 use denote.Enum.Declared.{tagOf}
-use lib.ListN.{length, drop}
+use lib.ListN.{length}
 use lib.Seq.{sets}
 use Rattle.sequences.specs.Stored.{cap, Clipped}
 use Rattle.sequences.proofs.Clips.{clipped-then, Going, going-start, going-step, going-done}
@@ -24,25 +24,20 @@ use Rattle.authserv.specs.Answers.{textOf}
 use Rattle.resinfo.specs.declared.Step.{Step}
 use Rattle.resinfo.proofs.Step.{the-type}
 use Rattle.resinfo.specs.declared.Step.the-variants as step
-use Rattle.result_parts.specs.declared.Label.{Label}
-use Rattle.result_parts.specs.declared.Label.the-variants as label
 use Rattle.methodspecs.specs.declared.Method.the-variants as method
 use Rattle.result_parts.specs.declared.Reason.the-variants.{Stated, Absent}
-use Rattle.values.specs.declared.Found.{Found}
-use Rattle.values.specs.declared.Found.the-variants as found
 use Rattle.values.specs.declared.Value as place
 use Rattle.resinfo_rules.specs.Results.{Property, Methodspec, Result, reason, property, methodspec, unmarked}
-use Rattle.values.specs.Values.{valueOf, valueAt}
+use Rattle.values.specs.Values.{valueOf}
 use Rattle.sequences.specs.Spans.{span}
 use Rattle.marks.specs.Marks.{spaced}
 use Rattle.methodspecs.specs.Methods.{methodAt}
-use Rattle.result_parts.specs.Parts.{reasonFrom, reasonGot, labelAt}
-use Rattle.resinfo.specs.Steps.{isEnd, endOf, propertyOf, stepOf, stepFrom, stepAt, propertyGot}
+use Rattle.result_parts.specs.Parts.{reasonFrom, reasonGot}
+use Rattle.resinfo.specs.Steps.{stepFrom, propertyGot}
 use Rattle.resinfo_rules.specs.Table.{listed, tabled, table, ptypes, knownVersion, knownMethod, knownTypes, understood}
 use Rattle.methodspecs.proofs.Methods.{method-found, method-not}
 use Rattle.result_parts.proofs.Reasons.{reason-got}
 use Rattle.resinfo.proofs.Steps.{step-got}
-use Rattle.result_parts.proofs.PartPlaces.{label-places}
 use Rattle.resinfo_laws.proofs.Results.{property-within}
 use Rattle.body.specs.Report.{methodLine, reasonLine, propertyLine, propertyLines, resultLines}
 use Rattle.result_lines.specs.declared.Details.{Details}
@@ -50,7 +45,7 @@ use Rattle.result_lines.specs.declared.Stated as stated
 use Rattle.result_lines.specs.declared.Turn.the-variants as turn
 use Rattle.report_lines.specs.Lines.{methodText, reasonText, propertyText}
 use Rattle.result_lines.specs.Turns.{turnAt, linesAt}
-use Rattle.result_lines.specs.Internal.{optionAt, optionEnd, propertiesAt, detailLines, PropertiesPut, ReasonPut, DetailsPut}
+use Rattle.result_lines.specs.Internal.{knowsType, knowsMethod, optionAt, optionEnd, propertiesAt, detailLines, PropertiesPut, ReasonPut, DetailsPut}
 
 -- ==== a part that may be missing
 
@@ -101,37 +96,6 @@ module _ (s : List ℕ) (i g : ℕ) (y : g ≡ spaced s i) where
 
 -- ==== properties
 
--- a ptype from a up to e stands inside
-pub record TypeStands (s : List ℕ) (a e : ℕ) : Type 0 where
-  pub ptype : a < e
-  pub typed : e ≤ length s
-
-abbrev PropertyStands : List ℕ → Step → Type 0
-PropertyStands s (step.Property a e b f v x) = TypeStands s a e
-PropertyStands s step.Done = Unit
-PropertyStands s step.Refused = Unit
-
-module _ (s : List ℕ) (i : ℕ) where
-  property-stands : PropertyStands s (stepAt s i)
-  property-stands = go (labelAt s i) refl
-    where
-      ends : (c : Bool) → PropertyStands s (endOf c)
-      ends true = tt
-      ends false = tt
-
-      valued : (a e b f k : ℕ) → label.Read a e b f k ≡ labelAt s i → (x : Found) → valueAt s k ≡ x → PropertyStands s (propertyOf a e b f x)
-      valued a e b f k h found.Refused j = tt
-      valued a e b f k h (found.Read v x) j =
-          let p = label-places s i a e b f k h in
-          record { ptype = p .ptype; typed = omega (arith, p .dot, p .property, p .equals, p .inside) }
-
-      go : (l : Label) → labelAt s i ≡ l → PropertyStands s (stepOf s (spaced s i) l)
-      go label.Missing h = ends (isEnd (drop (spaced s i) s))
-      go (label.Read a e b f k) h = valued a e b f k (sym h) (valueAt s k) refl
-
-  pub property-places : (g : ℕ) → g ≡ spaced s i → (a e b f : ℕ) (v : place.Value) (x : ℕ) → step.Property a e b f v x ≡ stepFrom s i g → TypeStands s a e
-  property-places g y a e b f v x k = let h = k ∙ ap (stepFrom s i) y in subst (λ (r : Step). PropertyStands s r) (sym h) property-stands
-
 abbrev propertyOn : List ℕ → ℕ → ℕ → ℕ → ℕ → place.Value → Property
 propertyOn s a e b f v = record { ptype = keywordText (span s a e); property = keywordText (span s b f); value = valueOf s v }
 
@@ -172,8 +136,9 @@ module _ (s : List ℕ) (at : ℕ) (old : List ℕ) (to : ℕ) (out : List ℕ) 
     pub writing-further : (i < x) × (x ≤ length s)
     writing-further = further property s i property-within (propertyOn s a e b f v) x read
 
-    pub writing-more : length old < 2 ^ 64 → (t : Bool) → t ≡ (known && listed ptypes (map lower (span s a e)))
+    pub writing-more : length old < 2 ^ 64 → (t : Bool) → t ≡ knowsType known (span s a e)
         → (out′ : List ℕ) (m : ℕ) → Clipped out n (propertyText s a e b f v) out′ m → (j : ℕ) → j ≡ spaced s x → Writing s at old to out′ x j m t
+    unfolding knowsType
     writing-more l t q out′ m u j z =
         let p = propertyOn s a e b f v in
         let ps = listAt property s x in
@@ -219,13 +184,23 @@ details-put s i old mid new to r d l p q =
 
 -- where the version is understood the table decides, and else the method is not known
 module _ (v : VersionNumber) (o : Bool) (h : o ≡ isOne v) (m r : List ℕ) where
-  pub version-known : o ≡ true → (t : Bool) → t ≡ tabled table m r → t ≡ (knownVersion m v && tabled table m r)
-  unfolding knownVersion
-  version-known e t q = rw (← h, e) q
+  pub version-known : o ≡ true → (m′ r′ : List ℕ) → m′ ≡ m → r′ ≡ r → (t : Bool) → t ≡ tabled table (map lower m′) (map lower r′) → t ≡ knowsMethod v m r
+  unfolding knowsMethod knownVersion
+  version-known e m′ r′ x y t q = rw (knowsMethod, ← h, e, ← x, ← y) q
 
-  pub version-unknown : o ≡ false → false ≡ (knownVersion m v && tabled table m r)
-  unfolding knownVersion
-  version-unknown e = rw (← h, e)
+  pub version-unknown : o ≡ false → false ≡ knowsMethod v m r
+  unfolding knowsMethod knownVersion
+  version-unknown e = rw (knowsMethod, ← h, e)
+
+-- where all ptypes so far are known the next one decides, and else they stay unknown
+module _ (known : Bool) (p : List ℕ) where
+  pub type-known : known ≡ true → (p′ : List ℕ) → p′ ≡ p → (t : Bool) → t ≡ listed ptypes (map lower p′) → t ≡ knowsType known p
+  unfolding knowsType
+  type-known e p′ x t q = rw (knowsType, e, ← x) q
+
+  pub type-unknown : known ≡ false → false ≡ knowsType known p
+  unfolding knowsType
+  type-unknown e = rw (knowsType, e)
 
 -- where there is no method there is no result
 module _ (s : List ℕ) (a : ℕ) (h : method.Missing ≡ methodAt s a) where
@@ -280,8 +255,9 @@ module _ (s : List ℕ) (a b e : ℕ) (v : VersionNumber) (f g : ℕ) (h : metho
     pub lines-read : new ≡ sets old to (linesAt s a)
     lines-read = rw (← lines-at) (put-whole .bytes)
 
-    pub turn-read : (t : Bool) → t ≡ (knownVersion (map lower (span s b e)) v && tabled table (map lower (span s b e)) (map lower (span s f g))) → (u : Bool) → u ≡ (t && d .known)
+    pub turn-read : (t : Bool) → t ≡ knowsMethod v (span s b e) (span s f g) → (u : Bool) → u ≡ (t && d .known)
         → turn.Read (d .end) (d .gap) (d .next) u ≡ turnAt s a to
+    unfolding knowsMethod
     turn-read t q u r =
         let k : u ≡ understood whole = r ∙ (rw (q, p .known) (sym known-whole)) in
         rw (k, put-whole .place, p .gap, p .end) (turn-whole to)

@@ -1,17 +1,28 @@
 -- What private functions say: no public contract cites these. Assumes nothing: these are definitions.
 use Prim.Native.Nat.{ℕ}
 use mathlib.Core.Path.{_≡_}
-use mathlib.Core.List.{List, _++_}
+use mathlib.Core.Bool.{Bool, _&&_}
+use mathlib.Core.List.{List, _++_, map}
 use mathlib.Core.Option.{Option, none, some}
 use Rattle.sequences.specs.Stored.{Clipped}
 use Rattle.reading.specs.Parsers.{nothing, got, Parser}
 use Rattle.reading.specs.Places.{from, listAt, endAt}
+use Rattle.lexis_rules.specs.declared.VersionNumber.{VersionNumber}
+use Rattle.lexis_rules.specs.Bytes.{lower}
 use Rattle.resinfo_rules.specs.Results.{Property, reason, property}
-use Rattle.resinfo_rules.specs.Table.{knownTypes}
+use Rattle.resinfo_rules.specs.Table.{listed, tabled, table, ptypes, knownVersion, knownTypes}
 use Rattle.marks.specs.Marks.{spaced}
 use Rattle.body.specs.Report.{reasonLine, propertyLines}
 use Rattle.result_lines.specs.declared.Details.{Details}
 use Rattle.result_lines.specs.declared.Stated.{Stated}
+
+-- all ptypes so far are known, and this one too
+unfoldable pub knowsType : Bool → List ℕ → Bool
+knowsType known t = known && listed ptypes (map lower t)
+
+-- the version of a method is understood, and its result stands in its row
+unfoldable pub knowsMethod : VersionNumber → List ℕ → List ℕ → Bool
+knowsMethod v m r = knownVersion (map lower m) v && tabled table (map lower m) (map lower r)
 
 -- what p reads at a place, if it does, and where it ends
 unfoldable pub optionAt : {A : Type 0} → Parser A → List ℕ → ℕ → Option A

@@ -12,12 +12,10 @@ use resinfo::Step;
 use result_parts::Reason;
 ghost use mathlib.Core.Path.{_≡_};
 ghost use mathlib.Core.Bool.{_&&_};
-ghost use mathlib.Core.List.{map};
 ghost use lib.Seq.{sets};
-ghost use Rattle.lexis_rules.specs.Bytes.{lower};
-ghost use Rattle.resinfo_rules.specs.Table.{listed, tabled, table, ptypes, knownVersion};
+ghost use Rattle.sequences.specs.Spans.{span};
 ghost use Rattle.marks.specs.Marks.{spaced};
-ghost use Rattle.result_lines.specs.Internal.{PropertiesPut, ReasonPut, DetailsPut};
+ghost use Rattle.result_lines.specs.Internal.{knowsType, knowsMethod, PropertiesPut, ReasonPut, DetailsPut};
 ghost use Rattle.result_lines.specs.Turns.{turnAt, linesAt};
 
 // What was read and written: the place after it in the body, with its space, and the place after its text, and whether all of its ptypes
@@ -29,22 +27,32 @@ struct Details {
     known: bool,
 }
 
-// Whether all ptypes so far are known, and this one too.
-fn knows_ptype(known: bool, ptype: &[u8]) -> bool
-    ensures { λ r. ⌜ r ≡ (known && listed ptypes (map lower (now (ptype .entry)))) ⌝ }
+// Whether all ptypes so far are known, and the one between two places too.
+fn knows_ptype(known: bool, s: &[u8], start: usize, end: usize) -> bool
+    ensures { λ r. ⌜ r ≡ knowsType known (span (now (s .entry)) start end) ⌝ }
 {
     if known {
-        return methods::is_ptype(ptype);
+        return methods::is_ptype(spans::part(s, start, end));
     }
     false
 }
 
-// Whether the version of a method is understood, and its result stands in its row.
-fn knows_method(version: VersionNumber, method: &[u8], result: &[u8]) -> bool
-    ensures { λ r. ⌜ r ≡ (knownVersion (map lower (now (method .entry))) version && tabled table (map lower (now (method .entry))) (map lower (now (result .entry)))) ⌝ }
+// Whether the version of the method between two places is understood, and its result, between two others, stands in its row.
+fn knows_method(
+    version: VersionNumber,
+    s: &[u8],
+    start: usize,
+    end: usize,
+    result_start: usize,
+    result_end: usize,
+) -> bool
+    ensures { λ r. ⌜ r ≡ knowsMethod version (span (now (s .entry)) start end) (span (now (s .entry)) «result_start» «result_end») ⌝ }
 {
     if digit_runs::is_one(version) {
-        return methods::is_tabled(method, result);
+        return methods::is_tabled(
+            spans::part(s, start, end),
+            spans::part(s, result_start, result_end),
+        );
     }
     false
 }
@@ -75,7 +83,7 @@ fn put_properties(s: &[u8], at: usize, gap: usize, out: &mut [u8], to: usize) ->
                 known,
             };
         };
-        known = knows_ptype(known, &s[type_start..type_end]);
+        known = knows_ptype(known, s, type_start, type_end);
         n = report_lines::put_property(
             s,
             type_start,
@@ -161,7 +169,7 @@ pub fn put_result(s: &[u8], at: usize, out: &mut [u8], to: usize) -> Turn
             result_start,
             result_end,
         } => {
-            let known = knows_method(version, &s[start..end], &s[result_start..result_end]);
+            let known = knows_method(version, s, start, end, result_start, result_end);
             let n = report_lines::put_method(s, start, end, result_start, result_end, out, to);
             let d = put_details(s, result_end, out, n);
             Turn::Read {

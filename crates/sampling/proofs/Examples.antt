@@ -3,17 +3,8 @@ use Prim.Native.Nat.{min}
 use mathlib.Core.Path.{_≡_, refl}
 use mathlib.Core.List.{[], _∷_}
 use Rattle.reading.specs.Texts.{bytes, within}
-use Rattle.reading.proofs.Cases.{case, Says, copies}
-use Rattle.sampling.specs.Samples.{sums, adler, changed, number, digits, plain, shown}
-
--- the sums of nothing, of one byte, of "Wikipedia", and of so many bytes that both halves pass 65521
-sum : Says adler (case [] 1 ∷ case (bytes "a") 6422626 ∷ case (bytes "Wikipedia") 300286872 ∷ case (copies 300 255) 3104778980 ∷ [])
-unfolding sums
-sum = refl
-
-count : Says changed (case [] 0 ∷ case (170 ∷ 171 ∷ 170 ∷ 0 ∷ []) 2 ∷ case (copies 20 170) 0 ∷ case (copies 20 169) 20 ∷ [])
-unfolding changed
-count = refl
+use Rattle.reading.proofs.Cases.{case, Says}
+use Rattle.sampling.specs.Samples.{number, digits, plain, shown}
 
 -- a byte before "0" counts 0, the others by their distance from it
 told : Says (number 0) (case [] 0 ∷ case (bytes "00417") 417 ∷ case (bytes "1-2") 102 ∷ case (bytes "1:a") 249 ∷ [])

@@ -1,16 +1,14 @@
-// What the programs that run cases share: they tell of bytes by a sum, by a count and as text, and their arguments are decimal numbers.
+// What the programs that run cases share: they tell of bytes as text, and their arguments are decimal numbers.
 //
-// `adler` and `changed` tell of bytes. `shown` writes them as visible text, `digits` the values of the digits in front of a text, each into a
+// `shown` writes bytes as visible text, `digits` the values of the digits in front of a text, each into a
 // lent buffer: as much is stored as there is room for, and the answer says how many bytes that is. `number_of` reads a number, cut at the most
 // that is asked for. `front` cuts a number of bytes to those that there are. Each takes any bytes and any numbers.
 ghost use mathlib.Core.Path.{_≡_};
-ghost use mathlib.Core.Bool.{cond};
 ghost use mathlib.Core.List.{[], _∷_};
 ghost use Prim.Native.Nat.{_+_, _-_, _*_, _<_, min};
-ghost use lib.Dec.{eqb};
 ghost use lib.ListN.{length};
 ghost use Rattle.reading.specs.Texts.{within};
-ghost use Rattle.sampling.specs.Samples.{adler, changed, number, hexDigit, plain, shown, digits, Front, Filled};
+ghost use Rattle.sampling.specs.Samples.{number, hexDigit, plain, shown, digits, Front, Filled};
 
 // How many of n bytes there are in front: n, or all where there are fewer.
 pub fn front(s: &[u8], n: usize) -> usize
@@ -21,52 +19,6 @@ pub fn front(s: &[u8], n: usize) -> usize
         return n;
     }
     s.len()
-}
-
-// A byte as a wider number.
-fn wide(b: u8) -> u64
-    ensures { λ r. ⌜ r ≡ b ⌝ }
-    ensures { λ r. ⌜ r < 256 ⌝ }
-{
-    b as u64
-}
-
-// The Adler-32 sum of the bytes (RFC 1950, 2.2).
-pub fn adler(s: &[u8]) -> u64
-    ensures { λ r. ⌜ r ≡ adler (now (s .entry)) ⌝ }
-{
-    let mut low: u64 = 1;
-    let mut high: u64 = 0;
-    let mut i: usize = 0;
-    while i < s.len() {
-        low = (low + wide(s[i])) % 65521;
-        high = (high + low) % 65521;
-        i += 1;
-    }
-    high * 65536 + low
-}
-
-// 0 for a byte of 170, 1 for any other.
-fn differs(b: u8) -> usize
-    ensures { λ r. ⌜ r ≡ cond (eqb b 170) 0 1 ⌝ }
-{
-    if b == 170 {
-        return 0;
-    }
-    1
-}
-
-// How many of the bytes are not 170, which is what stands in a buffer before it is lent.
-pub fn changed(s: &[u8]) -> usize
-    ensures { λ r. ⌜ r ≡ changed (now (s .entry)) ⌝ }
-{
-    let mut count: usize = 0;
-    let mut i: usize = 0;
-    while i < s.len() {
-        count += differs(s[i]);
-        i += 1;
-    }
-    count
 }
 
 // Whether a byte is from a to z.

@@ -3,3 +3,4 @@ pub mod Alike
 pub mod Headlines
 pub mod Ways
 pub mod ByFields
+pub mod Limits

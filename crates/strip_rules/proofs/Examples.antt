@@ -1,6 +1,6 @@
 -- Stripping at worked examples, computed: which fields go, the sums, the answers in order, and what is left in the lent buffer.
 -- Assumes nothing.
-use Prim.Native.Nat.{ℕ, zero, suc}
+use Prim.Native.Nat.{ℕ}
 use mathlib.Core.Path.{_≡_, refl}
 use mathlib.Core.List.{List, [], _∷_, _++_, map}
 use lib.ListN.{length}
@@ -19,7 +19,7 @@ abbrev says : ℕ → ℕ → ℕ → List ℕ → Answer
 says k r f w = record { number = 0; place = 0; kept = k; removed = r; fields = f; written = w }
 
 -- a refusal: a number and its place, zero counts, nothing written
-abbrev refuses : ℕ → ℕ → Answer
+abbrev pub refuses : ℕ → ℕ → Answer
 refuses n p = record { number = n; place = p; kept = 0; removed = 0; fields = 0; written = [] }
 
 -- ==== which fields go
@@ -105,16 +105,6 @@ blocks :
     ∷ [])
 unfolding opened
 blocks = refl
-
--- so many fields of four bytes
-abbrev short : ℕ → List ℕ
-short zero = []
-short (suc n) = bytes "A:\r\n" ++ short n
-
--- 4: the 513th field
-most : map (λ (b : List ℕ). strip b [] 0) (short 513 ∷ short 512 ∷ []) ≡ refuses 4 2048 ∷ refuses 6 2048 ∷ []
-unfolding opened
-most = refl
 
 -- 6: lent output shorter than the whole output; the place is the bytes needed, those of the kept fields alone
 rooms :

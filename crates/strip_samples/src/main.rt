@@ -22,8 +22,8 @@ fn put_number(label: &[u8], n: u64) {
 // Writes what holds of the lent bytes: the kept ones in front, and those past them.
 fn put_bytes(out: &[u8], kept: usize) {
     let n = sampling::front(out, kept);
-    put_number(b", check ", sampling::adler(&out[..n]));
-    put_number(b" changed ", sampling::changed(&out[n..]) as u64);
+    put_number(b", check ", sample_sums::adler(&out[..n]));
+    put_number(b" changed ", sample_sums::changed(&out[n..]) as u64);
 }
 
 // Writes the answer.

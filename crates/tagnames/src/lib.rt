@@ -1,19 +1,15 @@
-// Names of tags, each by the place of its first byte in a body: how they stand to a name, and whether they are those that a signature or a
-// seal needs.
+// Names of tags, each by the place of its first byte in a body, and how they stand to a name.
 //
 //   compare(s, at, name)         how the name at a place stands to another in the order of their bytes
 //   is_named(s, at, name)        whether it is this name
 //   wide(x), narrow(x)           the place that an entry of a table of names stands for, and the entry for a place
 //   bucket(name)                 a number below 32,768 that is made of the bytes of a name
-//   is_signature(s, places)      whether the names at these places are those that a signature needs
-//   is_seal(s, places, cv)       the same for a seal, with the chain value of its cv
 ghost use mathlib.Core.Path.{_≡_};
 ghost use Prim.Native.Nat.{_%_, _<_};
 ghost use lib.ListN.{drop};
 ghost use Rattle.reading.specs.Texts.{starts};
 ghost use Rattle.tag_rules.specs.Tags.{inTagName};
-ghost use Rattle.arc_rules.specs.Sets.{signatureTags, sealTags};
-ghost use Rattle.tagnames.specs.Names.{comparedAt, sameAt, heldAt, allAt, sealAt, bucketOf};
+ghost use Rattle.tagnames.specs.Names.{comparedAt, sameAt, bucketOf};
 
 // How one name stands to another in the order of their bytes.
 pub enum Order {
@@ -87,74 +83,6 @@ pub fn narrow(x: usize) -> u16
     ensures { λ r. ⌜ r ≡ x % 65536 ⌝ }
 {
     (x % 65536) as u16
-}
-
-// Whether a name stands at one of these places.
-fn has(s: &[u8], places: &[u16], name: &[u8]) -> bool
-    ensures { λ r. ⌜ r ≡ heldAt (now (s .entry)) (now (places .entry)) (now (name .entry)) ⌝ }
-{
-    let mut k: usize = 0;
-    while k < places.len() {
-        if is_named(s, wide(places[k]), name) {
-            return true;
-        }
-        k += 1;
-    }
-    false
-}
-
-// Whether the names at these places are those that a signature needs.
-pub fn is_signature(s: &[u8], places: &[u16]) -> bool
-    ensures { λ r. ⌜ r ≡ allAt (now (s .entry)) (now (places .entry)) signatureTags ⌝ }
-{
-    if !has(s, places, b"a") {
-        return false;
-    }
-    if !has(s, places, b"b") {
-        return false;
-    }
-    if !has(s, places, b"bh") {
-        return false;
-    }
-    if !has(s, places, b"d") {
-        return false;
-    }
-    if !has(s, places, b"h") {
-        return false;
-    }
-    has(s, places, b"s")
-}
-
-// Whether the names at these places are those that a seal needs, h aside.
-fn has_seal_tags(s: &[u8], places: &[u16]) -> bool
-    ensures { λ r. ⌜ r ≡ allAt (now (s .entry)) (now (places .entry)) sealTags ⌝ }
-{
-    if !has(s, places, b"a") {
-        return false;
-    }
-    if !has(s, places, b"b") {
-        return false;
-    }
-    if !has(s, places, b"d") {
-        return false;
-    }
-    if !has(s, places, b"s") {
-        return false;
-    }
-    has(s, places, b"cv")
-}
-
-// Whether the names at these places are those that a seal needs and not h, and the chain value is one.
-pub fn is_seal(s: &[u8], places: &[u16], cv: u8) -> bool
-    ensures { λ r. ⌜ r ≡ sealAt (now (s .entry)) (now (places .entry)) cv ⌝ }
-{
-    if cv == 0 {
-        return false;
-    }
-    if has(s, places, b"h") {
-        return false;
-    }
-    has_seal_tags(s, places)
 }
 
 fn number(b: u8) -> usize

@@ -55,7 +55,7 @@ pub fn told(seal: bool, s: &[u8], places: &[u16], cv: u8) -> Attempt
     ensures { λ r. ⌜ r ≡ toldAt seal (now (s .entry)) (now (places .entry)) cv ⌝ }
 {
     if seal {
-        return attempt_if(tagnames::is_seal(s, places, cv), cv);
+        return attempt_if(needed_tags::is_seal(s, places, cv), cv);
     }
-    attempt_if(tagnames::is_signature(s, places), 0)
+    attempt_if(needed_tags::is_signature(s, places), 0)
 }

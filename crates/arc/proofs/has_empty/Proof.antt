@@ -43,7 +43,7 @@ loop-less : tie.Need-loop-less Inv-loop μ-loop Inv-search μ-search
 loop-less c = omega arith
 
 loop-again : tie.Need-loop-again Inv-loop μ-loop Inv-search μ-search
-loop-again c = search row-more
+loop-again c = row-more _ _ (c .before .before .before .before .before .before .pre) _ _ (c .before .before .before .before .search-test .taken) _ (c .before .before .before .loop .inv) (omega arith) (c .if1 .left)
 
 add-i : tie.Need-add-i Inv-loop μ-loop Inv-search μ-search
 add-i c = omega arith
@@ -52,13 +52,13 @@ search-less : tie.Need-search-less Inv-loop μ-loop Inv-search μ-search
 search-less c = omega arith
 
 search-again : tie.Need-search-again Inv-loop μ-loop Inv-search μ-search
-search-again c = search row-done
+search-again c = row-done _ _ (c .before .before .before .before .pre) _ _ (c .before .before .search-test .taken) _ (c .before .loop .inv) (c .loop-test .left)
 
 returns : tie.Need-returns Inv-loop μ-loop Inv-search μ-search
 returns c = search rows-done
 
 returns-2 : tie.Need-returns-2 Inv-loop μ-loop Inv-search μ-search
-returns-2 c = search row-found
+returns-2 c = row-found _ _ (c .before .before .before .before .before .before .pre) _ _ (c .before .before .before .before .search-test .taken) _ (c .before .before .before .loop .inv) (omega arith) (c .if1 .taken)
 
 pub has-empty-spec : {M : Type 1} → statement M
 has-empty-spec =

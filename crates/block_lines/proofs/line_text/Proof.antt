@@ -43,7 +43,7 @@ loop-less : tie.Need-loop-less Inv-loop μ-loop
 loop-less c = omega arith
 
 loop-again : tie.Need-loop-again Inv-loop μ-loop
-loop-again c = search (text-on inLine)
+loop-again c = text-on inLine _ _ _ 16 _ (c .before .before .before .before .loop .inv) (c .before .has-end .ensures) (c .if2 .left)
 
 pub line-text-spec : {M : Type 1} → statement M
 line-text-spec =

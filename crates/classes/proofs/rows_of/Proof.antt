@@ -1,7 +1,6 @@
 -- `classes::rows_of` meets its contract: the binary digits of each class are computed. Assumes nothing.
-use Rattle.lexis_rules.specs.Bytes.{inClass, letter}
-use Rattle.classes.specs.Internal.{bitsOf}
-use Rattle.reading.specs.Texts.{within, oneOf}
+use Rattle.lexis_rules.specs.declared.Class.the-variants.{Blank, Opening, Zero, Digit, Keyword, Token, Quoted, Comment, Escaped, Name, Visible, Delimiter, Tag}
+use Rattle.classes.proofs.Digits.{told}
 use borrow.Author.Needs.{needs}
 use Rattle.classes.proofs.rows_of.Statement.{statement}
 use Rattle.classes.proofs.rows_of.Tie as tie
@@ -46,56 +45,43 @@ enum-told-13 : tie.Need-enum-told-13
 enum-told-13 c = search needs
 
 returns : tie.Need-returns
-unfolding inClass letter within oneOf bitsOf
-returns c = rw (c .enum-told .given .1)
+returns c = told Blank _ (c .enum-told .given .1)
 
 returns-2 : tie.Need-returns-2
-unfolding inClass letter within oneOf bitsOf
-returns-2 c = rw (c .enum-told2 .given .1)
+returns-2 c = told Opening _ (c .enum-told2 .given .1)
 
 returns-3 : tie.Need-returns-3
-unfolding inClass letter within oneOf bitsOf
-returns-3 c = rw (c .enum-told3 .given .1)
+returns-3 c = told Zero _ (c .enum-told3 .given .1)
 
 returns-4 : tie.Need-returns-4
-unfolding inClass letter within oneOf bitsOf
-returns-4 c = rw (c .enum-told4 .given .1)
+returns-4 c = told Digit _ (c .enum-told4 .given .1)
 
 returns-5 : tie.Need-returns-5
-unfolding inClass letter within oneOf bitsOf
-returns-5 c = rw (c .enum-told5 .given .1)
+returns-5 c = told Keyword _ (c .enum-told5 .given .1)
 
 returns-6 : tie.Need-returns-6
-unfolding inClass letter within oneOf bitsOf
-returns-6 c = rw (c .enum-told6 .given .1)
+returns-6 c = told Token _ (c .enum-told6 .given .1)
 
 returns-7 : tie.Need-returns-7
-unfolding inClass letter within oneOf bitsOf
-returns-7 c = rw (c .enum-told7 .given .1)
+returns-7 c = told Quoted _ (c .enum-told7 .given .1)
 
 returns-8 : tie.Need-returns-8
-unfolding inClass letter within oneOf bitsOf
-returns-8 c = rw (c .enum-told8 .given .1)
+returns-8 c = told Comment _ (c .enum-told8 .given .1)
 
 returns-9 : tie.Need-returns-9
-unfolding inClass letter within oneOf bitsOf
-returns-9 c = rw (c .enum-told9 .given .1)
+returns-9 c = told Escaped _ (c .enum-told9 .given .1)
 
 returns-10 : tie.Need-returns-10
-unfolding inClass letter within oneOf bitsOf
-returns-10 c = rw (c .enum-told10 .given .1)
+returns-10 c = told Name _ (c .enum-told10 .given .1)
 
 returns-11 : tie.Need-returns-11
-unfolding inClass letter within oneOf bitsOf
-returns-11 c = rw (c .enum-told11 .given .1)
+returns-11 c = told Visible _ (c .enum-told11 .given .1)
 
 returns-12 : tie.Need-returns-12
-unfolding inClass letter within oneOf bitsOf
-returns-12 c = rw (c .enum-told12 .given .1)
+returns-12 c = told Delimiter _ (c .enum-told12 .given .1)
 
 returns-13 : tie.Need-returns-13
-unfolding inClass letter within oneOf bitsOf
-returns-13 c = rw (c .enum-told13 .given .1)
+returns-13 c = told Tag _ (c .enum-told13 .given .1)
 
 pub rows-of-spec : {M : Type 1} → statement M
 rows-of-spec =

@@ -8,10 +8,10 @@ until-requires : tie.Need-until-requires
 until-requires c κs = search needs
 
 slice-aggregate-result : tie.Need-slice-aggregate-result
-slice-aggregate-result c = search column-long
+slice-aggregate-result c = column-long (c .before .before .before .args .l .now) (c .before .until .result) (c .before .until .ensures)
 
 returns : tie.Need-returns
-returns c = search column-is
+returns c = column-is (c .before .before .before .args .l .now) (c .before .until .result) (c .before .until .ensures)
 
 pub column-spec : {M : Type 1} → statement M
 column-spec = tie.close (tie.spec until-requires slice-aggregate-result returns)

@@ -11,7 +11,7 @@ returns : tie.Need-returns
 returns c = search shown-visible
 
 returns-2 : tie.Need-returns-2
-returns-2 c = search shown-other
+returns-2 c = shown-other _ _ (c .before .in-class .ensures) (c .if1 .left)
 
 pub shown-spec : {M : Type 1} → statement M
 shown-spec = tie.close (tie.spec in-class-requires returns returns-2)

@@ -23,7 +23,8 @@ same-length : tie.Need-same-length
 same-length c = search needs
 
 returns : tie.Need-returns
-returns c = search answers-put
+returns c =
+    answers-put (c .before .before .before .before .before .before .before .before .before .before .before .before .before .args .l .now) _ _ (c .before .before .before .before .before .before .before .before .before .before .before .before .before .good .1 .0 .0) _ (c .before .before .before .before .before .behind .ensures) _ (c .before .before .before .before .before .before .before .before .before .before .column .ensures) _ _ (c .before .before .before .before .before .before .before .before .put-answer .ensures) _ (c .before .before .before .before .column2 .ensures) _ _ (c .before .before .put-count .ensures)
 
 pub put-answers-spec : {M : Type 1} → statement M
 put-answers-spec =

@@ -26,7 +26,8 @@ same-length : tie.Need-same-length
 same-length c = search needs
 
 returns : tie.Need-returns
-returns c = search field-put
+returns c =
+    field-put (c .before .before .before .before .before .before .before .before .before .before .before .before .before .before .before .before .before .args .l .now) _ _ (c .before .before .before .before .before .before .before .before .before .before .before .before .before .before .before .before .before .good .1 .0 .0) _ (c .before .before .before .before .behind .ensures) _ _ (c .before .before .before .before .before .before .before .before .before .before .before .before .put-labelled .ensures) _ _ (c .before .before .before .before .before .before .before .put-part .ensures) (c .before .before .put-owner .last .1 .0) (c .before .before .put-owner .result) (c .before .before .put-owner .ensures)
 
 pub put-field-spec : {M : Type 1} → statement M
 put-field-spec =

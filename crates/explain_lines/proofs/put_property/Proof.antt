@@ -35,7 +35,8 @@ same-length : tie.Need-same-length
 same-length c = search needs
 
 returns : tie.Need-returns
-returns c = search property-put
+returns c =
+    property-put (c .before .before .before .before .before .before .before .before .before .before .before .before .before .before .before .before .before .before .before .before .args .l .now) _ _ (c .before .before .before .before .before .before .before .before .before .before .before .before .before .before .before .before .before .before .before .before .good .1 .0 .0) _ (c .before .before .before .before .before .before .before .before .before .before .before .before .behind .ensures) _ _ (c .before .before .before .before .before .before .before .before .before .before .before .before .before .before .before .put-labelled .ensures) _ _ (c .before .before .before .before .before .before .before .before .before .put-labelled2 .ensures) _ (c .before .before .before .before .before .before .behind2 .ensures) _ (c .before .before .before .before .behind3 .ensures) _ _ (c .before .before .put-labelled3 .ensures)
 
 pub put-property-spec : {M : Type 1} → statement M
 put-property-spec =

@@ -1,6 +1,7 @@
 -- `explaining::goes_on` meets its contract: each arm is a case of the definition. Assumes nothing.
 use mathlib.Core.Path.{sym, ap}
 use Rattle.explain_rules.specs.Explained.{goesOn}
+use Rattle.explaining.proofs.Lines.{own-line}
 use borrow.Author.Needs.{needs}
 use Rattle.explaining.proofs.goes_on.Statement.{statement}
 use Rattle.explaining.proofs.goes_on.Tie as tie
@@ -11,24 +12,6 @@ enum-told c = search needs
 enum-told-2 : tie.Need-enum-told-2
 enum-told-2 c = search needs
 
-enum-told-3 : tie.Need-enum-told-3
-enum-told-3 c = search needs
-
-enum-told-4 : tie.Need-enum-told-4
-enum-told-4 c = search needs
-
-enum-told-5 : tie.Need-enum-told-5
-enum-told-5 c = search needs
-
-enum-told-6 : tie.Need-enum-told-6
-enum-told-6 c = search needs
-
-enum-told-7 : tie.Need-enum-told-7
-enum-told-7 c = search needs
-
-enum-told-8 : tie.Need-enum-told-8
-enum-told-8 c = search needs
-
 returns : tie.Need-returns
 unfolding goesOn
 returns c = ap goesOn (sym (c .enum-told .given .1))
@@ -38,46 +21,7 @@ unfolding goesOn
 returns-2 c = ap goesOn (sym (c .enum-told2 .given .1))
 
 returns-3 : tie.Need-returns-3
-unfolding goesOn
-returns-3 c = ap goesOn (sym (c .enum-told3 .given .1))
-
-returns-4 : tie.Need-returns-4
-unfolding goesOn
-returns-4 c = ap goesOn (sym (c .enum-told4 .given .1))
-
-returns-5 : tie.Need-returns-5
-unfolding goesOn
-returns-5 c = ap goesOn (sym (c .enum-told5 .given .1))
-
-returns-6 : tie.Need-returns-6
-unfolding goesOn
-returns-6 c = ap goesOn (sym (c .enum-told6 .given .1))
-
-returns-7 : tie.Need-returns-7
-unfolding goesOn
-returns-7 c = ap goesOn (sym (c .enum-told7 .given .1))
-
-returns-8 : tie.Need-returns-8
-unfolding goesOn
-returns-8 c = ap goesOn (sym (c .enum-told8 .given .1))
+returns-3 c = own-line _ (c .match .keys3)
 
 pub goes-on-spec : {M : Type 1} → statement M
-goes-on-spec =
-    tie.close
-    (tie.spec
-    enum-told
-    enum-told-2
-    enum-told-3
-    enum-told-4
-    enum-told-5
-    enum-told-6
-    enum-told-7
-    enum-told-8
-    returns
-    returns-2
-    returns-3
-    returns-4
-    returns-5
-    returns-6
-    returns-7
-    returns-8)
+goes-on-spec = tie.close (tie.spec enum-told enum-told-2 returns returns-2 returns-3)

@@ -14,7 +14,7 @@ same-length : tie.Need-same-length
 same-length c = search needs
 
 returns : tie.Need-returns
-returns c = search none-put
+returns c = none-put (c .before .before .before .before .before .before .before .before .args .lines .now) _ _ _ _ (c .before .before .before .before .before .if1 .taken) (c .before .before .put-part .ensures)
 
 put-lines-requires : tie.Need-put-lines-requires
 put-lines-requires c κs = search needs
@@ -23,7 +23,7 @@ same-length-2 : tie.Need-same-length-2
 same-length-2 c = search needs
 
 returns-2 : tie.Need-returns-2
-returns-2 c = search lines-put
+returns-2 c = lines-put (c .before .before .before .before .before .before .before .args .lines .now) _ _ _ _ (c .before .before .before .before .if1 .left) (c .before .before .put-lines .ensures)
 
 pub put-explained-spec : {M : Type 1} → statement M
 put-explained-spec =

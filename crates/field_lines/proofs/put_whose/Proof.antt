@@ -41,7 +41,7 @@ same-length-2 : tie.Need-same-length-2
 same-length-2 c = search needs
 
 returns-2 : tie.Need-returns-2
-returns-2 c = others-put _ _ _ _ _ (c .before .before .before .before .before .enum-told2 .given .1) (c .before .before .put-part2 .ensures)
+returns-2 c = others-put _ _ _ (c .before .before .put-part2 .last .1 .0) (c .before .before .put-part2 .result) (c .before .before .before .before .before .enum-told2 .given .1) (c .before .before .put-part2 .ensures)
 
 same-length-3 : tie.Need-same-length-3
 same-length-3 c = search needs

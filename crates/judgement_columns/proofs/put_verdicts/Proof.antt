@@ -17,7 +17,8 @@ same-length : tie.Need-same-length
 same-length c = search needs
 
 returns : tie.Need-returns
-returns c = search verdicts-put
+returns c =
+    verdicts-put (c .before .before .before .before .before .before .before .before .before .before .before .before .before .args .j) {o₁ = c .before .before .before .before .before .before .before .before .before .before .put-number .last .1 .0} {a = c .before .before .before .before .before .before .before .before .before .before .put-number .result} (c .before .before .before .before .before .before .before .before .before .before .before .before .before .good .1 .0 .0) (c .before .before .before .before .before .before .before .before .before .before .put-number .ensures) (c .before .before .before .before .before .before .put-status .ensures) (c .before .before .put-oldest .ensures)
 
 pub put-verdicts-spec : {M : Type 1} → statement M
 put-verdicts-spec =

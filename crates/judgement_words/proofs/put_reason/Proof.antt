@@ -7,9 +7,6 @@ use Rattle.judgement_words.proofs.put_reason.Tie as tie
 slice-aggregate-put-phrase : tie.Need-slice-aggregate-put-phrase
 slice-aggregate-put-phrase c = search needs
 
-reason-place-requires : tie.Need-reason-place-requires
-reason-place-requires c κs = search needs
-
 put-phrase-requires : tie.Need-put-phrase-requires
 put-phrase-requires c κs = search needs
 
@@ -24,7 +21,6 @@ put-reason-spec =
     tie.close
     (tie.spec
     slice-aggregate-put-phrase
-    reason-place-requires
     put-phrase-requires
     same-length
     returns)

@@ -17,7 +17,8 @@ same-length : tie.Need-same-length
 same-length c = search needs
 
 returns : tie.Need-returns
-returns c = search judgement-put
+returns c =
+    judgement-put (c .before .before .before .before .before .before .before .before .before .before .before .before .before .args .j) {o₂ = c .before .before .before .before .before .before .put-chain .last .1 .0} {b = c .before .before .before .before .before .before .put-chain .result} (c .before .before .before .before .before .before .before .before .before .before .before .before .before .good .1 .0 .0) (c .before .before .before .before .before .before .before .before .before .before .put-columns .ensures) (c .before .before .before .before .before .before .put-chain .ensures) (c .before .before .put-byte .ensures)
 
 pub put-judgement-spec : {M : Type 1} → statement M
 put-judgement-spec =

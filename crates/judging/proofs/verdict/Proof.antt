@@ -7,10 +7,10 @@ returns : tie.Need-returns
 returns c = search verdict-below
 
 returns-2 : tie.Need-returns-2
-returns-2 c = search verdict-above
+returns-2 c = verdict-above _ (c .if2 .taken)
 
 returns-3 : tie.Need-returns-3
-returns-3 c = search verdict-digit
+returns-3 c = verdict-digit _ (c .before .if1 .left) (c .if2 .left)
 
 pub verdict-spec : {M : Type 1} → statement M
 verdict-spec = tie.close (tie.spec returns returns-2 returns-3)

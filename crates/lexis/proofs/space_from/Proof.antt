@@ -5,7 +5,8 @@ use lib.ListN.{length}
 use Rattle.reading.specs.Places.{Reaches}
 use Rattle.reading.proofs.Loops.{reaches-start}
 use Rattle.lexis_rules.specs.Pieces.{space}
-use Rattle.lexis.proofs.Loops.{blank-no-open, at-comment, past-comment, past-comment-less, at-item, past-item, past-item-less}
+use Rattle.comments.proofs.Loops.{at-comment, past-comment, past-comment-less, at-item, past-item, past-item-less}
+use Rattle.lexis.proofs.Loops.{blank-no-open}
 use Rattle.items.proofs.Loops.{item-turn}
 use Rattle.lexis.proofs.space_from.Statement.{statement}
 use Rattle.lexis.proofs.space_from.Tie as tie

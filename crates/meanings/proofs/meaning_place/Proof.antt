@@ -13,13 +13,13 @@ returns-3 : tie.Need-returns-3
 returns-3 c = search place-three
 
 returns-4 : tie.Need-returns-4
-returns-4 c = search place-four
+returns-4 c = place-four _ (c .before .before .before .if1 .left) (c .before .before .if2 .left) (c .before .if3 .left) (c .if4 .taken)
 
 returns-5 : tie.Need-returns-5
-returns-5 c = search place-five
+returns-5 c = place-five _ (c .before .before .before .before .if1 .left) (c .before .before .before .if2 .left) (c .before .before .if3 .left) (c .before .if4 .left) (c .if5 .taken)
 
 returns-6 : tie.Need-returns-6
-returns-6 c = search place-six
+returns-6 c = place-six _ (c .before .before .before .before .if1 .left) (c .before .before .before .if2 .left) (c .before .before .if3 .left) (c .before .if4 .left) (c .if5 .left)
 
 pub meaning-place-spec : {M : Type 1} → statement M
 meaning-place-spec = tie.close (tie.spec returns returns-2 returns-3 returns-4 returns-5 returns-6)

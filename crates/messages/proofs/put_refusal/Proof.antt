@@ -23,7 +23,8 @@ same-length : tie.Need-same-length
 same-length c = search needs
 
 returns : tie.Need-returns
-returns c = search refusal-put
+returns c =
+    refusal-put _ (c .before .before .before .before .before .before .before .before .before .before .before .before .before .before .before .before .before .before .before .good .1 .1 .1 .0 .0) _ _ _ _ (c .before .before .before .before .before .before .before .before .before .before .before .before .before .before .before .put-opening .ensures) (c .before .before .before .before .before .before .before .before .before .before .before .put-meaning .last .1 .1 .1 .0) (c .before .before .before .before .before .before .before .before .before .before .before .put-meaning .result) (c .before .before .before .before .before .before .before .before .before .before .before .before .before .before .before .before .before .before .before .args .place) (c .before .before .before .before .before .before .before .before .before .before .before .before .before .before .before .before .before .before .before .args .list .now) (c .before .before .before .before .before .before .before .before .before .before .before .put-meaning .ensures) _ _ (c .before .before .before .before .before .before .put-part .ensures) _ _ (c .before .before .put-closing .ensures)
 
 pub put-refusal-spec : {M : Type 1} → statement M
 put-refusal-spec =

@@ -23,7 +23,7 @@ outcome-requires : tie.Need-outcome-requires
 outcome-requires c κs = search needs
 
 returns : tie.Need-returns
-returns c = explain-so (c .before .before .before .before .before .before .before .before .args .a) _ _ _ _ _ _ _ (c .before .before .before .before .before .part .ensures) (slice-aggregate-outcome (c .before)) (c .before .before .before .put-explained .ensures) (c .outcome .ensures)
+returns c = explain-so (c .before .before .before .before .before .before .before .before .args .a) _ _ _ _ _ _ (c .outcome .result) (c .before .before .before .before .before .part .ensures) (slice-aggregate-outcome (c .before)) (c .before .before .before .put-explained .ensures) (c .outcome .ensures)
 
 pub explain-outcome-spec : {M : Type 1} → statement M
 explain-outcome-spec =

@@ -36,7 +36,7 @@ space-end-requires : tie.Need-space-end-requires
 space-end-requires c κs = search needs
 
 returns-3 : tie.Need-returns-3
-returns-3 c = search none-word
+returns-3 c = none-word (c .before .before .before .before .before .before .before .before .before .before .args .s .now) (c .before .before .before .before .before .before .before .before .before .before .args .at) _ (c .before .before .before .before .before .before .before .before .before .before .pre) _ (c .before .before .before .before .before .before .before .before .mark-from .ensures) (c .before .before .before .before .before .before .before .if1 .left) _ (c .before .before .before .before .before .before .keyword-end .ensures) (c .before .before .before .before .before .if2 .left) _ (c .before .before .same-text .ensures) (c .before .if3 .taken) _ (c .space-end .ensures)
 
 returns-4 : tie.Need-returns-4
 returns-4 c = search none-other-word

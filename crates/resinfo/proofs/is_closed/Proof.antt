@@ -11,7 +11,7 @@ returns : tie.Need-returns
 returns c = search end-at
 
 returns-2 : tie.Need-returns-2
-returns-2 c = search end-over
+returns-2 c = end-over (c .before .args .s .now) (c .before .args .at) (c .if1 .left)
 
 pub is-closed-spec : {M : Type 1} → statement M
 is-closed-spec = tie.close (tie.spec shared-slice-read-result returns returns-2)

@@ -6,7 +6,7 @@ use lib.ListN.{length}
 use borrow.Author.Needs.{needs}
 use Rattle.resinfo.specs.declared.Step.the-variants.{Property}
 use Rattle.resinfo.specs.Steps.{stepFrom}
-use Rattle.result_lines.proofs.Turns.{TypeStands, property-places, Writing, writing-start, writing-further, writing-more, written-all}
+use Rattle.result_lines.proofs.Turns.{Writing, writing-start, writing-further, writing-more, written-all}
 use Rattle.result_lines.proofs.put_properties.Statement.{statement}
 use Rattle.result_lines.proofs.put_properties.Tie as tie
 
@@ -16,15 +16,11 @@ Inv-loop s at gap out₀ to i₀ a₀ n₀ known₀ out i a n known = Writing s 
 abbrev μ-loop : tie.MeasureT-loop
 μ-loop s at gap out₀ to i₀ a₀ n₀ known₀ out i a n known = length s - i
 
--- the property that a turn takes, and where it stands
+-- the property that a turn takes
 step : (c : tie.After-known-told Inv-loop μ-loop)
     → Property (c .before .type-start .given .0 .0) (c .before .type-start .given .0 .1 .0) (c .before .type-start .given .0 .1 .1 .0) (c .before .type-start .given .0 .1 .1 .1 .0) (c .before .type-start .given .0 .1 .1 .1 .1 .0) (c .before .type-start .given .0 .1 .1 .1 .1 .1 .0)
     ≡ stepFrom (c .before .before .before .before .before .before .before .args .s .now) (c .before .before .before .before .loop .i) (c .before .before .before .before .loop .a)
 step c = sym (c .before .type-start .given .1) ∙ c .before .before .before .step-from .ensures
-
-near : (c : tie.After-known-told Inv-loop μ-loop)
-    → TypeStands (c .before .before .before .before .before .before .before .args .s .now) (c .before .type-start .given .0 .0) (c .before .type-start .given .0 .1 .0)
-near c = property-places _ _ _ (c .before .before .before .before .loop .inv .gap) _ _ _ _ _ _ (step c)
 
 loop-holds : tie.Need-loop-holds Inv-loop μ-loop
 loop-holds c = writing-start _ _ _ _ _ (c .before .before .pre) (search needs)
@@ -41,15 +37,6 @@ same-length c = c .before .before .loop .inv .left .long
 returns : tie.Need-returns Inv-loop μ-loop
 returns c = written-all _ _ _ _ _ _ _ _ _ (c .before .before .loop .inv) _ (c .match .keys2) (c .before .step-from .ensures)
 
-sub-knows-ptype : tie.Need-sub-knows-ptype Inv-loop μ-loop
-sub-knows-ptype c = omega (arith, near c)
-
-part-knows-ptype-start : tie.Need-part-knows-ptype-start Inv-loop μ-loop
-part-knows-ptype-start c = omega (arith, near c)
-
-part-knows-ptype-end : tie.Need-part-knows-ptype-end Inv-loop μ-loop
-part-knows-ptype-end c = omega (arith, near c)
-
 knows-ptype-requires : tie.Need-knows-ptype-requires Inv-loop μ-loop
 knows-ptype-requires c κs = search needs
 
@@ -60,13 +47,10 @@ space-end-requires : tie.Need-space-end-requires Inv-loop μ-loop
 space-end-requires c κs = search needs
 
 loop-less : tie.Need-loop-less Inv-loop μ-loop
-loop-less c = omega (arith, writing-further _ _ _ _ _ _ _ _ _ (c .before .before .before .before .before .before .before .before .before .before .before .loop .inv) _ _ _ _ _ _ (step (c .before .before .before .before .before .before .before)))
+loop-less c = omega (arith, writing-further _ _ _ _ _ _ _ _ _ (c .before .before .before .before .before .before .before .before .before .before .loop .inv) _ _ _ _ _ _ (step (c .before .before .before .before .before .before)))
 
 loop-again : tie.Need-loop-again Inv-loop μ-loop
-loop-again c =
-    writing-more _ _ _ _ _ _ _ _ _ (c .before .before .before .before .before .before .before .before .before .before .before .loop .inv) _ _ _ _ _ _
-    (step (c .before .before .before .before .before .before .before)) (search needs)
-    _ (c .before .before .before .before .before .knows-ptype .ensures) _ _ (c .before .before .before .put-property .ensures) _ (c .space-end .ensures)
+loop-again c = writing-more _ _ _ _ _ _ _ _ _ (c .before .before .before .before .before .before .before .before .before .before .loop .inv) _ _ _ _ _ _ (step (c .before .before .before .before .before .before)) (search needs) _ (c .before .before .before .before .before .knows-ptype .ensures) _ _ (c .before .before .before .put-property .ensures) _ (c .space-end .ensures)
 
 pub put-properties-spec : {M : Type 1} → statement M
 put-properties-spec =
@@ -79,9 +63,6 @@ put-properties-spec =
     enum-known-type-start
     same-length
     returns
-    sub-knows-ptype
-    part-knows-ptype-start
-    part-knows-ptype-end
     knows-ptype-requires
     put-property-requires
     space-end-requires

@@ -1,47 +1,23 @@
 -- `result_lines::put_result` meets its contract: the method and what stands behind it are the result. Assumes nothing.
-use native.Mathlib.Omega.{arith}
 use mathlib.Core.Path.{_≡_, sym, _∙_}
 use borrow.Author.Needs.{needs}
 use Rattle.methodspecs.specs.declared.Method.the-variants.{Read}
 use Rattle.methodspecs.specs.Methods.{methodAt}
-use Rattle.methodspecs.proofs.Places.{MethodPlaces, method-places}
 use Rattle.result_lines.proofs.Turns.{turn-missing, lines-missing, lines-read, turn-read}
 use Rattle.result_lines.proofs.put_result.Statement.{statement}
 use Rattle.result_lines.proofs.put_result.Tie as tie
 
--- the method that was found, and where it stands
+-- the method that was found
 found : (c : tie.After-known-told)
     → Read (c .before .start .given .0 .0) (c .before .start .given .0 .1 .0) (c .before .start .given .0 .1 .1 .0) (c .before .start .given .0 .1 .1 .1 .0) (c .before .start .given .0 .1 .1 .1 .1 .0)
     ≡ methodAt (c .before .before .before .before .before .before .args .s .now) (c .before .before .before .before .before .before .args .at)
 found c = sym (c .before .start .given .1) ∙ c .before .before .before .method-at .ensures
-
-near : (c : tie.After-known-told)
-    → MethodPlaces (c .before .before .before .before .before .before .args .s .now) (c .before .before .before .before .before .before .args .at) (c .before .start .given .0 .0) (c .before .start .given .0 .1 .0) (c .before .start .given .0 .1 .1 .1 .0) (c .before .start .given .0 .1 .1 .1 .1 .0)
-near c = method-places _ _ _ _ _ _ _ (found c)
 
 method-at-requires : tie.Need-method-at-requires
 method-at-requires c κs = search needs
 
 enum-known-start : tie.Need-enum-known-start
 enum-known-start c = search needs
-
-sub-knows-method : tie.Need-sub-knows-method
-sub-knows-method c = omega (arith, near c)
-
-part-knows-method-start : tie.Need-part-knows-method-start
-part-knows-method-start c = omega (arith, near c)
-
-part-knows-method-end : tie.Need-part-knows-method-end
-part-knows-method-end c = omega (arith, near c)
-
-sub-knows-method-2 : tie.Need-sub-knows-method-2
-sub-knows-method-2 c = omega (arith, near (c .before))
-
-part-knows-method-start-2 : tie.Need-part-knows-method-start-2
-part-knows-method-start-2 c = omega (arith, near (c .before))
-
-part-knows-method-end-2 : tie.Need-part-knows-method-end-2
-part-knows-method-end-2 c = omega (arith, near (c .before))
 
 knows-method-requires : tie.Need-knows-method-requires
 knows-method-requires c κs = search needs
@@ -62,17 +38,10 @@ same-length : tie.Need-same-length
 same-length c = search needs
 
 returns : tie.Need-returns
-returns c =
-    let m = found (c .before .before .before .before .before .before .before .before .before .before .before .before) in
-    let w = c .before .before .before .before .before .before .before .put-method .ensures in
-    let d = c .before .before .before .put-details .ensures in
-    let l = c .before .before .before .before .before .before .before .before .before .before .before .before .before .before .before .before .before .before .good .1 .1 .0 .0 in
-    (turn-read _ _ _ _ _ _ _ m _ _ _ _ _ l w _ d _ (c .before .before .before .before .before .before .before .before .before .knows-method .ensures) _ (c .both .ensures), lines-read _ _ _ _ _ _ _ m _ _ _ _ _ l w _ d)
+returns c = (turn-read _ _ _ _ _ _ _ (found (c .before .before .before .before .before .before .before .before .before .before)) _ _ _ _ _ (c .before .before .before .before .before .before .before .before .before .before .before .before .before .before .before .before .good .1 .1 .0 .0) (c .before .before .before .before .before .before .before .put-method .ensures) _ (c .before .before .before .put-details .ensures) _ (c .before .before .before .before .before .before .before .before .before .knows-method .ensures) _ (c .both .ensures), lines-read _ _ _ _ _ _ _ (found (c .before .before .before .before .before .before .before .before .before .before)) _ _ _ _ _ (c .before .before .before .before .before .before .before .before .before .before .before .before .before .before .before .before .good .1 .1 .0 .0) (c .before .before .before .before .before .before .before .put-method .ensures) _ (c .before .before .before .put-details .ensures))
 
 returns-2 : tie.Need-returns-2
-returns-2 c =
-    let m = sym (c .enum-told .given .1) ∙ c .before .before .method-at .ensures in
-    (turn-missing _ _ m _, lines-missing _ _ m _ _)
+returns-2 c = (turn-missing _ _ (sym (c .enum-told .given .1) ∙ c .before .before .method-at .ensures) _, lines-missing _ _ (sym (c .enum-told .given .1) ∙ c .before .before .method-at .ensures) _ _)
 
 pub put-result-spec : {M : Type 1} → statement M
 put-result-spec =
@@ -80,12 +49,6 @@ put-result-spec =
     (tie.spec
     method-at-requires
     enum-known-start
-    sub-knows-method
-    part-knows-method-start
-    part-knows-method-end
-    sub-knows-method-2
-    part-knows-method-start-2
-    part-knows-method-end-2
     knows-method-requires
     put-method-requires
     put-details-requires

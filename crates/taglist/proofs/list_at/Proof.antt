@@ -14,7 +14,7 @@ list-within-requires : tie.Need-list-within-requires
 list-within-requires c κs = search list-fits
 
 returns-2 : tie.Need-returns-2
-returns-2 c = search needs
+returns-2 c = c .list-within .ensures
 
 pub list-at-spec : {M : Type 1} → statement M
 list-at-spec = tie.close (tie.spec too-long-requires returns list-within-requires returns-2)

@@ -15,7 +15,7 @@ slice-aggregate-try-linked-3 : tie.Need-slice-aggregate-try-linked-3
 slice-aggregate-try-linked-3 c = search needs
 
 try-linked-requires : tie.Need-try-linked-requires
-try-linked-requires c κs = search many-room
+try-linked-requires c κs = many-room (c .before .before .before .before .args .s .now) (c .before .before .before .before .pre)
 
 enum-known-cv : tie.Need-enum-known-cv
 enum-known-cv c = search needs
@@ -36,10 +36,10 @@ listed-as-requires : tie.Need-listed-as-requires
 listed-as-requires c κs = search needs
 
 returns : tie.Need-returns
-returns c = search attempt-read
+returns c = attempt-read Unit (c .before .before .before .before .before .before .before .before .before .before .before .args .seal) (c .before .before .before .before .before .before .before .before .before .before .before .args .s .now) (c .before .before .before .before .before .before .before .before .before .before .before .args .at) _ (c .before .before .before .before .before .before .try-linked .ensures) _ (c .before .cv .given .1)
 
 returns-2 : tie.Need-returns-2
-returns-2 c = search attempt-unreadable
+returns-2 c = attempt-unreadable Unit (c .before .before .before .before .before .before .before .before .before .before .args .seal) (c .before .before .before .before .before .before .before .before .before .before .args .s .now) (c .before .before .before .before .before .before .before .before .before .before .args .at) _ (c .before .before .before .before .before .try-linked .ensures) (c .enum-told .given .1)
 
 returns-3 : tie.Need-returns-3
 returns-3 c = many-said _ _ _ _ (c .before .before .try-list .result) (c .before .before .try-list .ensures .0) (sym (slice-aggregate-try-list (c .before .before .before))) (c .before .before .before .before .before .before .before .before .before .before .before .before .before .before .pre) _ (c .listed-as .ensures)

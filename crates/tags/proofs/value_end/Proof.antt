@@ -5,7 +5,7 @@ use borrow.Author.Needs.{needs}
 use Rattle.reading.specs.Places.{Reaches}
 use Rattle.reading.proofs.Loops.{reaches-start}
 use Rattle.items.proofs.Loops.{item-turn}
-use Rattle.lexis.proofs.Loops.{past-item-less}
+use Rattle.comments.proofs.Loops.{past-item-less}
 use Rattle.tag_rules.specs.Tags.{tagValue}
 use Rattle.tags.proofs.TagParts.{value-on, value-off}
 use Rattle.tags.proofs.value_end.Statement.{statement}

@@ -38,7 +38,8 @@ loop-less : tie.Need-loop-less Inv-loop μ-loop
 loop-less c = search text-less
 
 loop-again : tie.Need-loop-again Inv-loop μ-loop
-loop-again c = search walking-on
+loop-again c =
+    walking-on _ _ _ _ _ _ (c .before .before .before .before .before .before .loop .inv) _ (c .before .before .before .before .before .code-at2 .ensures) (c .before .before .before .if1 .left) _ (c .before .before .in-test .ensures) _ (c .before .in-test2 .ensures)
 
 pub text-at-spec : {M : Type 1} → statement M
 text-at-spec =

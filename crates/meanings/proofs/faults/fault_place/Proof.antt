@@ -17,16 +17,19 @@ sub-if2 : tie.Need-sub-if2
 sub-if2 c = search needs
 
 returns-2 : tie.Need-returns-2
-returns-2 c = search fault-one
+returns-2 c = fault-one (c .before .before .before .before .before .args .list .now) (c .before .before .before .before .before .args .place) _ (c .before .before .before .feeds-before .ensures) (c .before .before .if1 .left) _ (c .before .feed-from .ensures) (c .if2 .taken)
 
 returns-3 : tie.Need-returns-3
-returns-3 c = search fault-two
+returns-3 c =
+    fault-two (c .before .before .before .before .before .before .args .list .now) (c .before .before .before .before .before .before .args .place) _ (c .before .before .before .before .feeds-before .ensures) (c .before .before .before .if1 .left) _ (c .before .before .feed-from .ensures) (c .before .if2 .left) (c .if3 .taken)
 
 returns-4 : tie.Need-returns-4
-returns-4 c = search fault-three
+returns-4 c =
+    fault-three (c .before .before .before .before .before .before .before .args .list .now) (c .before .before .before .before .before .before .before .args .place) _ (c .before .before .before .before .before .feeds-before .ensures) (c .before .before .before .before .if1 .left) _ (c .before .before .before .feed-from .ensures) (c .before .before .if2 .left) (c .before .if3 .left) (c .if4 .taken)
 
 returns-5 : tie.Need-returns-5
-returns-5 c = search fault-four
+returns-5 c =
+    fault-four (c .before .before .before .before .before .before .before .args .list .now) (c .before .before .before .before .before .before .before .args .place) _ (c .before .before .before .before .before .feeds-before .ensures) (c .before .before .before .before .if1 .left) _ (c .before .before .before .feed-from .ensures) (c .before .before .if2 .left) (c .before .if3 .left) (c .if4 .left)
 
 pub fault-place-spec : {M : Type 1} → statement M
 fault-place-spec =

@@ -15,7 +15,7 @@ loop-holds : tie.Need-loop-holds Inv-loop μ-loop
 loop-holds c = search seeking-start
 
 returns : tie.Need-returns Inv-loop μ-loop
-returns c = search needs
+returns c = tt
 
 sub-wide : tie.Need-sub-wide Inv-loop μ-loop
 sub-wide c = omega arith

@@ -1,0 +1,13 @@
+-- `buffers::block` meets its contract: so many zeros. Assumes nothing.
+use mathlib.Core.Path.{refl}
+use borrow.Fn.Kinds.{tyR}
+use Rattle.buffers.proofs.Zeros.{count, zeros}
+use Rattle.buffers.proofs.block.Statement.{statement}
+use Rattle.buffers.proofs.block.Tie as tie
+use Rattle.buffers.proofs.block.Lts as lts
+
+returns : tie.Need-returns
+returns c = zeros (count (tyR lts.r)) 65537 refl
+
+pub block-spec : {M : Type 1} → statement M
+block-spec = tie.close (tie.spec returns)

@@ -1,0 +1,13 @@
+-- `buffers::reports` meets its contract: so many zeros. Assumes nothing.
+use mathlib.Core.Path.{refl}
+use borrow.Fn.Kinds.{tyR}
+use Rattle.buffers.proofs.Zeros.{count, zeros}
+use Rattle.buffers.proofs.reports.Statement.{statement}
+use Rattle.buffers.proofs.reports.Tie as tie
+use Rattle.buffers.proofs.reports.Lts as lts
+
+returns : tie.Need-returns
+returns c = zeros (count (tyR lts.r)) 229377 refl
+
+pub reports-spec : {M : Type 1} → statement M
+reports-spec = tie.close (tie.spec returns)

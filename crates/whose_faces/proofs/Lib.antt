@@ -1,0 +1,2 @@
+pub mod WhoseExamples
+pub mod Headlines
