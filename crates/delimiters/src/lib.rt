@@ -1,4 +1,4 @@
-// What ends an identifier, a method or a result: `delimited` answers whether it comes next at a place, any place, also past the end.
+// What has to follow an identifier and a header version: `delimited` answers whether it comes next at a place, any place, also past the end.
 use lexis_rules::Class;
 ghost use mathlib.Core.Path.{_≡_};
 ghost use lib.ListN.{drop};
