@@ -5,25 +5,25 @@ use mathlib.Core.Bool.{Bool, true, false}
 use mathlib.Core.List.{List}
 use mathlib.Core.Option.{Option, none, some}
 use lib.ListN.{length}
-use Rattle.reading.specs.Texts.{bytes}
-use Rattle.reading.specs.Parsers.{Got, nothing, got, Parser, after, _>>=_, _>>_, give, when}
-use Rattle.reading.specs.Places.{from}
-use Rattle.reading.proofs.Sequencing.{after-zero}
-use Rattle.reading.proofs.Places.{goes-on, stops, gives, passes, fails}
+use Rattle.base_readers.specs.Texts.{bytes}
+use Rattle.base_readers.specs.Parsers.{Got, nothing, got, Parser, after, _>>=_, _>>_, give, when}
+use Rattle.base_readers.specs.Places.{from}
+use Rattle.base_readers.proofs.Sequencing.{after-zero}
+use Rattle.base_readers.proofs.Places.{goes-on, stops, gives, passes, fails}
 use Rattle.lexis_rules.specs.Limits.{byteLimit}
 use Rattle.arc.specs.declared.Field.{Field}
 use Rattle.arc_rules.specs.declared.Kind.{Kind}
 use Rattle.arc_rules.specs.declared.Kind.the-variants.{Results, Signature, Seal, Other}
-use Rattle.instances.specs.declared.Start.{Start}
-use Rattle.instances.specs.declared.Start.the-variants as start
-use Rattle.taglist.specs.declared.Listed.{Listed}
-use Rattle.taglist.specs.declared.Listed.the-variants as listed
+use Rattle.arc_fields.specs.declared.Start.{Start}
+use Rattle.arc_fields.specs.declared.Start.the-variants as start
+use Rattle.tag_list.specs.declared.Listed.{Listed}
+use Rattle.tag_list.specs.declared.Listed.the-variants as listed
 use Rattle.tag_rules.specs.Tags.{Tag, tags, valueNamed}
 use Rattle.arc_rules.specs.Sets.{instance, chainValue, Said, isSignature, isSeal, says}
-use Rattle.instances.specs.Answers.{startGot}
-use Rattle.tagtests.specs.Lists.{listTest, listSaid, listedAt}
-use Rattle.tagtests.proofs.TagLists.{list-within}
-use Rattle.taglist.specs.Lists.{listedSaid}
+use Rattle.arc_fields.specs.Answers.{startGot}
+use Rattle.tag_content.specs.Lists.{listTest, listSaid, listedAt}
+use Rattle.tag_content.proofs.TagLists.{list-within}
+use Rattle.tag_list.specs.Lists.{listedSaid}
 use Rattle.arc.specs.Internal.{fieldOf, fieldSaid, saidOf}
 
 -- ==== what a field says

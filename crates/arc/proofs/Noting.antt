@@ -12,8 +12,8 @@ use borrow.Author.Tests.{eqb-true, eqb-false, eq-eqb, ne-eqb}
 use lib.Dec.{eqb, ltb}
 use lib.ListN.{length, getD, set, take, drop, replicate, length-drop, length-set, getD-replicate}
 use lib.Seq.{length-take-le, getD-set-same, getD-set-other}
-use Rattle.sequences.proofs.Booleans.{no-true, cond-le}
-use Rattle.reading.specs.Parsers.{Got, nothing, got}
+use Rattle.base_sequences.proofs.Booleans.{no-true, cond-le}
+use Rattle.base_readers.specs.Parsers.{Got, nothing, got}
 use Rattle.lexis_rules.specs.Limits.{byteLimit}
 use Rattle.block.specs.declared.Next.the-variants as next
 use Rattle.block.specs.declared.Next.the-variants.{End, Refused}
@@ -24,12 +24,12 @@ use Rattle.block.proofs.Steps.{Rest, fieldFrom, Cut, step-field, step-end, step
 use Rattle.arc.specs.declared.Field.{Field}
 use Rattle.arc.specs.declared.Field.the-variants as field
 use Rattle.arc.specs.declared.Counts.{Counts}
-use Rattle.instances.specs.declared.Instance.{Instance}
+use Rattle.arc_fields.specs.declared.Instance.{Instance}
 use Rattle.arc_rules.specs.declared.Kind.{Kind}
 use Rattle.arc_rules.specs.declared.Kind.the-variants.{Results, Signature, Seal, Other}
 use Rattle.arc_rules.specs.Sets.{kindNamed, lastInstance, instance, Said, says}
 use Rattle.arc_rules.specs.Chain.{Sets, noSets, column, first, sealed, placed, recorded, noted, gathered}
-use Rattle.instances.specs.Answers.{noInstance}
+use Rattle.arc_fields.specs.Answers.{noInstance}
 use Rattle.arc_laws.proofs.Counting.{InRange, says-range}
 use Rattle.arc.specs.Internal.{fieldSaid, saidOf, isOther, setsOf, noCounts, GatheredFrom, Places}
 

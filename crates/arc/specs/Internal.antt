@@ -5,7 +5,7 @@ use mathlib.Core.Bool.{Bool, true, false}
 use mathlib.Core.List.{List, []}
 use mathlib.Core.Option.{Option, none, some}
 use lib.ListN.{length, getD}
-use Rattle.reading.specs.Parsers.{nothing, got}
+use Rattle.base_readers.specs.Parsers.{nothing, got}
 use Rattle.block_rules.specs.Fields.{fields}
 use Rattle.arc.specs.declared.Field.{Field}
 use Rattle.arc.specs.declared.Field.the-variants as field
@@ -13,8 +13,8 @@ use Rattle.arc.specs.declared.Counts.{Counts}
 use Rattle.arc.specs.declared.Gathered.{Gathered}
 use Rattle.arc_rules.specs.declared.Kind.{Kind}
 use Rattle.arc_rules.specs.declared.Kind.the-variants.{Results, Signature, Seal, Other}
-use Rattle.taglist.specs.declared.Listed.{Listed}
-use Rattle.taglist.specs.declared.Listed.the-variants as listed
+use Rattle.tag_list.specs.declared.Listed.{Listed}
+use Rattle.tag_list.specs.declared.Listed.the-variants as listed
 use Rattle.arc_rules.specs.Sets.{lastInstance, Said, says}
 use Rattle.arc_rules.specs.Chain.{Sets, gathered, Outcome, completeOutcome}
 

@@ -18,16 +18,16 @@
 //   5  the seal at 1 hasn't cv none, or a later one hasn't cv pass
 // The status is 0 (none), 1 (pass) or 2 (fail); `oldest` is the oldest-pass, which there is exactly where the status
 // is pass.
-use answer_numbers::ChainValue;
-use answer_numbers::Number;
-use answer_numbers::Reason;
+use arc_fields::Instance;
+use arc_fields::Start;
 use arc_rules::Judged;
 use arc_rules::Kind;
+use base_answers::ChainValue;
+use base_answers::Number;
+use base_answers::Reason;
 use block::Next;
 use block::Walk;
-use instances::Instance;
-use instances::Start;
-use taglist::Listed;
+use tag_list::Listed;
 ghost use mathlib.Core.Path.{_≡_};
 ghost use mathlib.Core.Bool.{cond};
 ghost use Prim.Native.Nat.{_≤_, _<_};
@@ -59,11 +59,11 @@ fn read_field(kind: Kind, body: &[u8]) -> Field
     requires { ⌜ length (now body) ≤ byteLimit ⌝ }
     ensures { λ r. ⌜ fieldSaid r ≡ saidOf kind (now (body .entry)) ⌝ }
 {
-    match instances::instance_of(body) {
+    match arc_fields::instance_of(body) {
         Start::Read { instance, end } => match kind {
             Kind::Results => Field::Read { instance, cv: 0 },
-            Kind::Signature => field_of(instance, taglist::list_at(false, body, end)),
-            Kind::Seal => field_of(instance, taglist::list_at(true, body, end)),
+            Kind::Signature => field_of(instance, tag_list::list_at(false, body, end)),
+            Kind::Seal => field_of(instance, tag_list::list_at(true, body, end)),
             Kind::Other => Field::Unreadable,
         },
         Start::Missing => Field::Unreadable,
@@ -229,7 +229,7 @@ fn read_sets(
                 body_start,
                 end,
             } => {
-                let kind = arc_kinds::kind_of(&s[start..name_end]);
+                let kind = arc_fields::kinds::kind_of(&s[start..name_end]);
                 c = note(kind, count + 1, &s[body_start..end - 2], places, cvs, c);
                 at = end;
                 count += 1;
@@ -305,38 +305,38 @@ fn judge_complete(
     ensures { λ r. ⌜ r ≡ answerOf (judged (rankedBy n (now (places .entry)) (now (cvs .entry))) (now (v .entry))) ⌝ }
 {
     if has_empty(places, n) {
-        return chain_answers::failed(Reason::EMPTY_PLACE, 0, v);
+        return arc_answers::failed(Reason::EMPTY_PLACE, 0, v);
     }
     if cvs[n - 1] == ChainValue::FAIL {
-        return chain_answers::failed(Reason::LAST_FAIL, 0, v);
+        return arc_answers::failed(Reason::LAST_FAIL, 0, v);
     }
     if is_prescribed(cvs, n) {
-        return chain_answers::judge_built(n, v);
+        return arc_answers::judge_built(n, v);
     }
-    chain_answers::failed(Reason::NOT_PRESCRIBED, 0, v)
+    arc_answers::failed(Reason::NOT_PRESCRIBED, 0, v)
 }
 
 // Judges the chain of a block by the verdicts on its signatures.
 pub fn judge(s: &[u8], verdicts: &[u8]) -> Judged
     ensures { λ r. ⌜ r ≡ answerOf (judge (now (s .entry)) (now (verdicts .entry))) ⌝ }
 {
-    if lexis::too_long(s) {
-        return chain_answers::blank(Number::TOO_LONG, 0);
+    if lexis_space::too_long(s) {
+        return arc_answers::blank(Number::TOO_LONG, 0);
     }
     let mut places = [[0u16; 3]; Instance::LAST];
     let mut cvs = [0u8; Instance::LAST];
     let g = read_sets(s, &mut places, &mut cvs);
     if g.number != Number::DONE {
-        return chain_answers::blank(g.number, g.place);
+        return arc_answers::blank(g.number, g.place);
     }
     if g.counts.unreadable != 0 {
-        return chain_answers::failed(Reason::UNREADABLE, g.counts.unreadable, verdicts);
+        return arc_answers::failed(Reason::UNREADABLE, g.counts.unreadable, verdicts);
     }
     if g.counts.repeated != 0 {
-        return chain_answers::failed(Reason::REPEATED, g.counts.repeated, verdicts);
+        return arc_answers::failed(Reason::REPEATED, g.counts.repeated, verdicts);
     }
     if g.counts.highest == 0 {
-        return chain_answers::blank(Number::DONE, 0);
+        return arc_answers::blank(Number::DONE, 0);
     }
     judge_complete(&places, &cvs, g.counts.highest, verdicts)
 }

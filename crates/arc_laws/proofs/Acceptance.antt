@@ -11,8 +11,8 @@ use lib.Dec.{eqb, ltb}
 use lib.ListN.{length, getD, take}
 use lib.Seq.{getD-take, length-take-le}
 use borrow.Author.Tests.{eqb-true, eqb-false, eq-eqb, ne-eqb, ltb-true, ltb-false}
-use Rattle.sequences.proofs.Booleans.{no-true, both, and-left, and-right}
-use Rattle.reading.specs.Parsers.{Got, nothing, got}
+use Rattle.base_sequences.proofs.Booleans.{no-true, both, and-left, and-right}
+use Rattle.base_readers.specs.Parsers.{Got, nothing, got}
 use Rattle.block_rules.specs.Fields.{Field, bodyOf}
 use Rattle.arc_rules.specs.declared.Kind.{Kind}
 use Rattle.arc_rules.specs.declared.Kind.the-variants.{Results, Seal}

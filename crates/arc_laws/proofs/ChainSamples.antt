@@ -3,8 +3,8 @@
 use Prim.Native.Nat.{ℕ}
 use mathlib.Core.Path.{refl}
 use mathlib.Core.List.{List, [], _∷_, _++_}
-use Rattle.reading.specs.Texts.{bytes}
-use Rattle.reading.proofs.Cases.{case, Says}
+use Rattle.base_readers.specs.Texts.{bytes}
+use Rattle.base_readers.proofs.Cases.{case, Says}
 use Rattle.arc_rules.specs.Chain.{Answer, blank, judge}
 use Rattle.arc_rules.proofs.Opened.{opened}
 

@@ -11,10 +11,10 @@ use mathlib.Core.Logic.{_⊎_, inl, inr}
 use lib.Dec.{eqb, leb}
 use lib.ListN.{length, drop}
 use borrow.Author.Tests.{eqb-true, eq-eqb, leb-true}
-use Rattle.sequences.proofs.Booleans.{no-true, and-left, and-right, and-none}
-use Rattle.reading.specs.Texts.{within}
-use Rattle.reading.specs.Parsers.{nothing, got, Parser, _>>=_, give, when}
-use Rattle.reading.proofs.Sequencing.{no-got, bind-inv, give-inv, when-inv}
+use Rattle.base_sequences.proofs.Booleans.{no-true, and-left, and-right, and-none}
+use Rattle.base_readers.specs.Texts.{within}
+use Rattle.base_readers.specs.Parsers.{nothing, got, Parser, _>>=_, give, when}
+use Rattle.base_readers.proofs.Sequencing.{no-got, bind-inv, give-inv, when-inv}
 use Rattle.lexis_rules.specs.Pieces.{decimal}
 use Rattle.block_rules.specs.Fields.{Field, select}
 use Rattle.block_laws.proofs.Fields.{select-yes, select-no}

@@ -10,9 +10,9 @@ use mathlib.Core.Logic.{_⊎_, inl, inr}
 use lib.Dec.{eqb, ltb}
 use lib.ListN.{length, getD, length-replicate}
 use borrow.Author.Tests.{eqb-true, eqb-false, ltb-true, ltb-false}
-use Rattle.sequences.proofs.Booleans.{no-true, both, cond-le}
-use Rattle.reading.specs.Parsers.{Got, nothing, got}
-use Rattle.reading.proofs.Sequencing.{no-got}
+use Rattle.base_sequences.proofs.Booleans.{no-true, both, cond-le}
+use Rattle.base_readers.specs.Parsers.{Got, nothing, got}
+use Rattle.base_readers.proofs.Sequencing.{no-got}
 use Rattle.block_rules.specs.Fields.{Field, bodyOf, select}
 use Rattle.arc_rules.specs.declared.Kind.{Kind}
 use Rattle.arc_rules.specs.declared.Kind.the-variants.{Results, Signature, Seal, Other}

@@ -6,7 +6,7 @@ use mathlib.Core.Bool.{true, false}
 use mathlib.Core.List.{List, _++_, List·Memᴰ}
 use lib.ListN.{length}
 use borrow.Author.Tests.{le-ltb}
-use Rattle.reading.specs.Texts.{bytes}
+use Rattle.base_readers.specs.Texts.{bytes}
 use Rattle.lexis_rules.specs.Limits.{byteLimit}
 use Rattle.block_rules.specs.Fields.{Field, fields}
 use Rattle.arc_rules.specs.Chain.{built, outcome, validFor, Answer, blank, judged, judge}

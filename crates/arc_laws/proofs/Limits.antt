@@ -1,7 +1,7 @@
 -- The chain of a block of as many fields as there may be, and of one more, computed. Assumes nothing.
 use mathlib.Core.Path.{_≡_, refl}
 use mathlib.Core.List.{[], _∷_, _++_}
-use Rattle.reading.specs.Texts.{bytes}
+use Rattle.base_readers.specs.Texts.{bytes}
 use Rattle.block_laws.proofs.Limits.{short}
 use Rattle.arc_rules.proofs.Opened.{opened}
 use Rattle.arc_rules.proofs.Samples.{judges, zeros, fails}

@@ -7,8 +7,8 @@ use mathlib.Core.Bool.{true, false}
 use mathlib.Core.List.{List, [], _∷_, _++_, map, List·Memᴰ·head}
 use lib.Dec.{lit≤, lit<}
 use lib.ListN.{length}
-use Rattle.sequences.proofs.Booleans.{no-true}
-use Rattle.reading.specs.Texts.{bytes}
+use Rattle.base_sequences.proofs.Booleans.{no-true}
+use Rattle.base_readers.specs.Texts.{bytes}
 use Rattle.block_rules.specs.Fields.{Field}
 use Rattle.arc_rules.specs.declared.Kind.{Kind}
 use Rattle.arc_rules.specs.declared.Kind.the-variants.{Results, Signature, Seal, Other}

@@ -3,9 +3,9 @@
 use Prim.Native.Nat.{ℕ}
 use mathlib.Core.Path.{refl}
 use mathlib.Core.List.{[], _∷_}
-use Rattle.reading.specs.Texts.{bytes}
-use Rattle.reading.specs.Parsers.{Got, nothing, got}
-use Rattle.reading.proofs.Cases.{case, Says}
+use Rattle.base_readers.specs.Texts.{bytes}
+use Rattle.base_readers.specs.Parsers.{Got, nothing, got}
+use Rattle.base_readers.proofs.Cases.{case, Says}
 use Rattle.arc_rules.specs.declared.Kind.the-variants.{Results, Signature, Seal, Other}
 use Rattle.arc_rules.specs.Sets.{kindNamed, instance, chainValue, Said, says}
 use Rattle.arc_rules.proofs.Opened.{opened}

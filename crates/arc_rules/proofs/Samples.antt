@@ -5,9 +5,9 @@ use mathlib.Core.Path.{_≡_, refl}
 use mathlib.Core.Bool.{true, false}
 use mathlib.Core.List.{List, [], _∷_, _++_, map}
 use lib.ListN.{length, take}
-use Rattle.reading.specs.Texts.{bytes}
-use Rattle.reading.specs.Parsers.{Got, nothing, got}
-use Rattle.reading.proofs.Cases.{case, Says}
+use Rattle.base_readers.specs.Texts.{bytes}
+use Rattle.base_readers.specs.Parsers.{Got, nothing, got}
+use Rattle.base_readers.proofs.Cases.{case, Says}
 use Rattle.block_rules.specs.Fields.{fields}
 use Rattle.arc_rules.specs.declared.Kind.{Kind}
 use Rattle.arc_rules.specs.declared.Kind.the-variants.{Results, Signature, Seal}

@@ -7,7 +7,7 @@ use mathlib.Core.Bool.{Bool, true, false, cond, _&&_}
 use mathlib.Core.List.{List, List·Memᴰ}
 use lib.Dec.{eqb}
 use lib.ListN.{length}
-use Rattle.reading.specs.Parsers.{Got, nothing, got}
+use Rattle.base_readers.specs.Parsers.{Got, nothing, got}
 use Rattle.block_rules.specs.Fields.{Field, nameOf, bodyOf, select}
 use Rattle.arc_rules.specs.declared.Kind.{Kind}
 use Rattle.arc_rules.specs.declared.Kind.the-variants.{Results, Signature, Seal, Other}

@@ -5,7 +5,7 @@ use mathlib.Core.Bool.{Bool, true, false, cond, _&&_, _||_}
 use mathlib.Core.List.{List, [], _∷_}
 use lib.Dec.{eqb, leb, ltb}
 use lib.ListN.{length, getD, set, take, replicate}
-use Rattle.reading.specs.Parsers.{Got, nothing, got}
+use Rattle.base_readers.specs.Parsers.{Got, nothing, got}
 use Rattle.lexis_rules.specs.Limits.{byteLimit}
 use Rattle.block_rules.specs.Fields.{Field, nameOf, bodyOf, fields}
 use Rattle.arc_rules.specs.declared.Kind.{Kind}

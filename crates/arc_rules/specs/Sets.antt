@@ -5,8 +5,8 @@ use mathlib.Core.Bool.{Bool, true, false, not, cond, _&&_}
 use mathlib.Core.List.{List, [], _∷_}
 use lib.Dec.{eqb, leb}
 use lib.ListN.{length}
-use Rattle.reading.specs.Texts.{bytes, within}
-use Rattle.reading.specs.Parsers.{nothing, Parser, _>>=_, _>>_, give, when, byte, text}
+use Rattle.base_readers.specs.Texts.{bytes, within}
+use Rattle.base_readers.specs.Parsers.{nothing, Parser, _>>=_, _>>_, give, when, byte, text}
 use Rattle.lexis_rules.specs.Bytes.{alike}
 use Rattle.lexis_rules.specs.Pieces.{digits, decimal}
 use Rattle.lexis_rules.specs.Words.{skip}

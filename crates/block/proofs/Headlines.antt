@@ -4,7 +4,7 @@ use Prim.Native.Nat.{ℕ}
 use mathlib.Core.Path.{_≡_}
 use mathlib.Core.List.{List}
 use lib.ListN.{drop}
-use Rattle.reading.specs.Walks.{ended}
+use Rattle.base_readers.specs.Walks.{ended}
 use Rattle.block.specs.declared.Next.the-variants as next
 use Rattle.block.specs.Steps.{nextFrom}
 use Rattle.block.proofs.Steps as steps

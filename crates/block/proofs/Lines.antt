@@ -10,16 +10,16 @@ use borrow.Author.Tests.{le-leb, lt-leb}
 use lib.Dec.{eqb, leb}
 use lib.ListN.{length, getD, drop, length-drop, drop-of-length-le}
 use lib.Seq.{drop-drop}
-use Rattle.sequences.proofs.Booleans.{and-none}
-use Rattle.reading.specs.Texts.{within}
-use Rattle.reading.specs.Readers.{run, many}
+use Rattle.base_sequences.proofs.Booleans.{and-none}
+use Rattle.base_readers.specs.Texts.{within}
+use Rattle.base_readers.specs.Readers.{run, many}
 use Rattle.lexis_rules.specs.declared.Class.the-variants.{Blank, Name}
 use Rattle.lexis_rules.specs.Bytes.{inClass}
 use Rattle.block.specs.declared.Next.{Next}
 use Rattle.block.specs.declared.Next.the-variants.{Field, End, Refused}
 use Rattle.block_rules.specs.Fields.{lineText, line, name, nameColon, folded, extent, fieldLimit, fieldOf, fieldAt}
 use Rattle.block.specs.Steps.{nextOf, nextFrom, finishedAt, finished}
-use Rattle.reading.proofs.Places.{behind-first}
+use Rattle.base_readers.proofs.Places.{behind-first}
 use Rattle.block_laws.proofs.Lines.{label-zero, label-suc, field-2, field-3, field-4, field-is, closed-2, closed-is}
 
 -- ==== names

@@ -7,9 +7,9 @@ use mathlib.Core.Path.{_≡_, refl, _∙_}
 use mathlib.Core.List.{List, [], _∷_}
 use lib.ListN.{length, drop, take, length-drop}
 use lib.Seq.{drop-drop, take-take, length-take-le}
-use Rattle.sequences.proofs.Lists.{drop-take}
-use Rattle.reading.specs.Walks.{Met, item, refused, Walked, ended, before, walk}
-use Rattle.reading.proofs.Walks.{walk-item, walk-stop, walk-end}
+use Rattle.base_sequences.proofs.Lists.{drop-take}
+use Rattle.base_readers.specs.Walks.{Met, item, refused, Walked, ended, before, walk}
+use Rattle.base_readers.proofs.Walks.{walk-item, walk-stop, walk-end}
 use Rattle.block.specs.declared.Next.{Next}
 use Rattle.block.specs.declared.Next.the-variants as next
 use Rattle.block_rules.specs.Fields.{Field, nameOf, bodyOf, fieldLimit, fieldAt}

@@ -6,14 +6,14 @@ use mathlib.Core.Bool.{false}
 use mathlib.Core.List.{List}
 use lib.ListN.{length, getD, drop, length-drop}
 use lib.Seq.{drop-drop}
-use Rattle.reading.specs.Readers.{many}
-use Rattle.reading.proofs.Places.{behind-first}
+use Rattle.base_readers.specs.Readers.{many}
+use Rattle.base_readers.proofs.Places.{behind-first}
 use Rattle.lexis_rules.specs.declared.Class.the-variants.{Blank}
 use Rattle.lexis_rules.specs.Bytes.{inClass}
 use Rattle.block_rules.specs.Fields.{line, name, nameColon, folded, extent, fieldLimit}
 use Rattle.block_laws.proofs.Lines.{line-fits}
-use Rattle.field_ends.specs.Ends.{whole}
-use Rattle.field_ends.proofs.Ends.{Whole, whole-when}
+use Rattle.block_field_ends.specs.Ends.{whole}
+use Rattle.block_field_ends.proofs.Ends.{Whole, whole-when}
 use Rattle.block.specs.declared.Next.the-variants.{Field, Refused}
 use Rattle.block.specs.Steps.{nextFrom}
 use Rattle.block.proofs.Lines.{finish-field, next-3, next-4, next-field}

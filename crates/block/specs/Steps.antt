@@ -3,8 +3,8 @@ use Prim.Native.Nat.{ℕ, _+_}
 use mathlib.Core.Bool.{true, false}
 use mathlib.Core.List.{List, [], _∷_}
 use lib.ListN.{getD, drop}
-use Rattle.reading.specs.Readers.{many}
-use Rattle.reading.specs.Walks.{Met, item, refused}
+use Rattle.base_readers.specs.Readers.{many}
+use Rattle.base_readers.specs.Walks.{Met, item, refused}
 use Rattle.lexis_rules.specs.declared.Class.the-variants.{Blank}
 use Rattle.lexis_rules.specs.Bytes.{inClass}
 use Rattle.block.specs.declared.Walk.{Walk}

@@ -4,8 +4,8 @@
 //   2  a CR without LF, an LF without CR, or a last line without CRLF: that byte; for an unfinished line the block length
 //   3  an empty line, a first line starting with space or tab, or a field that lacks name or colon: the start of the line
 //   4  a 513th field: its start
-// A block of more than 65,536 bytes is the caller's to refuse (`lexis::too_long`).
-use answer_numbers::Number;
+// A block of more than 65,536 bytes is the caller's to refuse (`lexis_space::too_long`).
+use base_answers::Number;
 use lexis_rules::Class;
 ghost use mathlib.Core.Path.{_≡_};
 ghost use Prim.Native.Nat.{_+_};
@@ -56,8 +56,8 @@ fn label_end(s: &[u8], at: usize, n: usize) -> usize
     if n == at {
         return at;
     }
-    let e = items::run_end(s, n, Class::Blank);
-    if reading::is_at(s, e, 0, b':') {
+    let e = lexis_classes::run_end(s, n, Class::Blank);
+    if base_readers::is_at(s, e, 0, b':') {
         return e + 1;
     }
     at
@@ -98,7 +98,7 @@ fn next_by_lines(s: &[u8], w: Walk) -> Next
             place: block_lines::line_text(s, at),
         };
     }
-    let n = items::run_end(s, at, Class::Name);
+    let n = lexis_classes::run_end(s, at, Class::Name);
     let b = label_end(s, at, n);
     if b == at {
         return Next::Refused {
@@ -149,7 +149,7 @@ pub fn next_field(s: &[u8], w: Walk) -> Next
 {
     let at = w.at;
     let count = w.count;
-    let e = field_ends::whole_end(s, at);
+    let e = block_field_ends::whole_end(s, at);
     if e == at {
         return next_by_lines(s, w);
     }

@@ -8,9 +8,9 @@ use mathlib.Core.Bool.{Bool, true, false, cond, _&&_}
 use mathlib.Core.List.{List, [], _∷_}
 use lib.Dec.{eqb}
 use lib.ListN.{length, getD, drop}
-use Rattle.reading.specs.Texts.{oneOf}
-use Rattle.reading.specs.Readers.{run, many}
-use Rattle.reading.proofs.Readers.{run-more, many-more, many-none}
+use Rattle.base_readers.specs.Texts.{oneOf}
+use Rattle.base_readers.specs.Readers.{run, many}
+use Rattle.base_readers.proofs.Readers.{run-more, many-more, many-none}
 use Rattle.lexis_rules.specs.declared.Class.the-variants.{Blank}
 use Rattle.lexis_rules.specs.Bytes.{inClass}
 use Rattle.block_rules.specs.Fields.{inLine, lineText, line, folded, extent}

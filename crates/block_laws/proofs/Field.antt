@@ -11,15 +11,15 @@ use borrow.Author.Tests.{leb-false, lt-leb, eqb-true}
 use lib.Dec.{eqb, leb}
 use lib.ListN.{length, getD, drop, take, length-drop, take-append-drop, List·getD-append}
 use lib.Seq.{length-take-le, drop-cons, drop-append-le, drop-length, take-at, getD-append-add}
-use Rattle.sequences.proofs.Booleans.{true-not}
-use Rattle.sequences.proofs.Lists.{getD-either}
-use Rattle.reading.specs.Texts.{bytes, within, oneOf}
-use Rattle.reading.specs.Readers.{run, many}
-use Rattle.reading.specs.Walks.{Met, item, refused}
-use Rattle.reading.specs.Locality.{Fits, Any, Local}
-use Rattle.reading.proofs.Texts.{one-out}
-use Rattle.reading.proofs.Readers.{there, run-more, run-all, run-from, run-narrow, many-fits}
-use Rattle.reading.proofs.Local.{run-inside, many-at}
+use Rattle.base_sequences.proofs.Booleans.{true-not}
+use Rattle.base_sequences.proofs.Lists.{getD-either}
+use Rattle.base_readers.specs.Texts.{bytes, within, oneOf}
+use Rattle.base_readers.specs.Readers.{run, many}
+use Rattle.base_readers.specs.Walks.{Met, item, refused}
+use Rattle.base_readers.specs.Locality.{Fits, Any, Local}
+use Rattle.base_readers.proofs.Texts.{one-out}
+use Rattle.base_readers.proofs.Readers.{there, run-more, run-all, run-from, run-narrow, many-fits}
+use Rattle.base_readers.proofs.Local.{run-inside, many-at}
 use Rattle.lexis_rules.specs.declared.Class.the-variants.{Blank, Name}
 use Rattle.lexis_rules.specs.Bytes.{inClass}
 use Rattle.block_rules.specs.Fields.{inLine, lineText, line, name, nameColon, folded, extent, Field, fieldLimit, fieldAt}

@@ -8,8 +8,8 @@ use mathlib.Core.Bool.{Bool, true, false, not}
 use mathlib.Core.List.{List, [], _∷_, _++_}
 use lib.ListN.{length, getD, drop, take, length-append, take-append-drop, List·getD-append}
 use lib.Seq.{drop-append-seam}
-use Rattle.reading.specs.Walks.{Met, item, refused, Walked, walk}
-use Rattle.reading.proofs.Walks.{walk-item, walk-end}
+use Rattle.base_readers.specs.Walks.{Met, item, refused, Walked, walk}
+use Rattle.base_readers.proofs.Walks.{walk-item, walk-end}
 use Rattle.lexis_rules.specs.declared.Class.the-variants.{Blank}
 use Rattle.lexis_rules.specs.Bytes.{inClass}
 use Rattle.lexis_laws.proofs.Bytes.{class-zero}

@@ -7,11 +7,11 @@ use mathlib.Core.Bool.{true, false, cond, _&&_}
 use mathlib.Core.List.{List}
 use lib.Dec.{eqb, leb}
 use lib.ListN.{length, getD, drop, take}
-use Rattle.sequences.proofs.Booleans.{and-right, cond-le}
-use Rattle.reading.specs.Readers.{run}
-use Rattle.reading.specs.Locality.{Fits}
-use Rattle.reading.specs.Walks.{item, refused}
-use Rattle.reading.proofs.Readers.{there}
+use Rattle.base_sequences.proofs.Booleans.{and-right, cond-le}
+use Rattle.base_readers.specs.Readers.{run}
+use Rattle.base_readers.specs.Locality.{Fits}
+use Rattle.base_readers.specs.Walks.{item, refused}
+use Rattle.base_readers.proofs.Readers.{there}
 use Rattle.lexis_rules.specs.declared.Class.the-variants.{Blank}
 use Rattle.lexis_rules.specs.Bytes.{inClass}
 use Rattle.block_rules.specs.Fields.{lineText, line, name, nameColon, folded, extent, fieldLimit, fieldOf, fieldAt}

@@ -9,15 +9,15 @@ use lib.Dec.{eqb}
 use lib.ListN.{length, getD, drop}
 use mir.Syntax.{w64}
 use mir.Val as machine
-use Rattle.reading.specs.Readers.{many}
-use Rattle.reading.specs.Places.{Reaches}
-use Rattle.reading.specs.Locality.{Fits}
-use Rattle.reading.proofs.Readers.{there-at}
-use Rattle.reading.proofs.Loops.{many-on, many-off, turn-less}
+use Rattle.base_readers.specs.Readers.{many}
+use Rattle.base_readers.specs.Places.{Reaches}
+use Rattle.base_readers.specs.Locality.{Fits}
+use Rattle.base_readers.proofs.Readers.{there-at}
+use Rattle.base_readers.proofs.Loops.{many-on, many-off, turn-less}
 use Rattle.lexis_rules.specs.declared.Class.the-variants.{Blank}
 use Rattle.lexis_rules.specs.Bytes.{inClass}
 use Rattle.block_rules.specs.Fields.{lineText, line, folded}
-use Rattle.reading.proofs.Places.{behind, behind-first}
+use Rattle.base_readers.proofs.Places.{behind, behind-first}
 use Rattle.block_laws.proofs.Lines.{folded-fits}
 
 -- ==== lines

@@ -4,8 +4,8 @@ ghost use mathlib.Core.Path.{_≡_};
 ghost use mathlib.Core.Bool.{false};
 ghost use Prim.Native.Nat.{_+_, _≤_};
 ghost use lib.ListN.{length, drop, getD};
-ghost use Rattle.reading.specs.Readers.{many};
-ghost use Rattle.reading.specs.Places.{Reaches};
+ghost use Rattle.base_readers.specs.Readers.{many};
+ghost use Rattle.base_readers.specs.Places.{Reaches};
 ghost use Rattle.lexis_rules.specs.Bytes.{inClass};
 ghost use Rattle.block_rules.specs.Fields.{inLine, lineText, line, folded};
 
@@ -59,7 +59,7 @@ pub fn line_text(s: &[u8], at: usize) -> usize
 {
     let mut i = at;
     loop {
-        let r = reading::rest(s.len(), i);
+        let r = base_readers::rest(s.len(), i);
         if r < 16 {
             return near(s, i);
         }
@@ -75,8 +75,8 @@ pub fn line_end(s: &[u8], at: usize) -> usize
     ensures { λ r. ⌜ r ≡ at + line (drop at (now (s .entry))) ⌝ }
 {
     let e = line_text(s, at);
-    if reading::is_at(s, e, 0, b'\r') {
-        if reading::is_at(s, e, 1, b'\n') {
+    if base_readers::is_at(s, e, 0, b'\r') {
+        if base_readers::is_at(s, e, 1, b'\n') {
             return e + 2;
         }
     }
@@ -86,7 +86,7 @@ pub fn line_end(s: &[u8], at: usize) -> usize
 pub fn blank_at(s: &[u8], at: usize) -> bool
     ensures { λ r. ⌜ r ≡ inClass Class.Blank (getD (drop at (now (s .entry))) 0 0) ⌝ }
 {
-    items::class_at(s, at, 0, Class::Blank)
+    lexis_classes::class_at(s, at, 0, Class::Blank)
 }
 
 // The end of a line that starts with space or tab: the place itself where there is none.

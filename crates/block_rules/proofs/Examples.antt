@@ -3,10 +3,10 @@ use Prim.Native.Nat.{ℕ}
 use mathlib.Core.Path.{_≡_, refl}
 use mathlib.Core.List.{List, [], _∷_, map}
 use lib.ListN.{length}
-use Rattle.reading.specs.Texts.{bytes, within, oneOf, same}
-use Rattle.reading.specs.Readers.{run, many}
-use Rattle.reading.specs.Walks.{item, refused, walk}
-use Rattle.reading.proofs.Cases.{case, Says}
+use Rattle.base_readers.specs.Texts.{bytes, within, oneOf, same}
+use Rattle.base_readers.specs.Readers.{run, many}
+use Rattle.base_readers.specs.Walks.{item, refused, walk}
+use Rattle.base_readers.proofs.Cases.{case, Says}
 use Rattle.lexis_rules.specs.Bytes.{inClass, letter, lower, alike}
 use Rattle.block_rules.specs.Fields.{Field, inLine, line, nameColon, folded, extent, named, fieldOf, fieldAt, fields, bytesOf, select}
 

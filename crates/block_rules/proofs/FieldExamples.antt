@@ -4,9 +4,9 @@ use mathlib.Core.Path.{_≡_, refl}
 use mathlib.Core.Bool.{true, false}
 use mathlib.Core.List.{List, [], _∷_, _++_, map}
 use lib.Dec.{eqb}
-use Rattle.reading.specs.Texts.{bytes}
-use Rattle.reading.specs.Walks.{item, refused}
-use Rattle.reading.proofs.Cases.{case, Says}
+use Rattle.base_readers.specs.Texts.{bytes}
+use Rattle.base_readers.specs.Walks.{item, refused}
+use Rattle.base_readers.proofs.Cases.{case, Says}
 use Rattle.lexis_rules.proofs.ClassExamples.{range, members}
 use Rattle.block_rules.specs.Fields.{Field, inLine, line, nameColon, extent, nameOf, bodyOf, named, fieldLimit, fieldAt, fields, bytesOf, select}
 use Rattle.block_rules.proofs.Examples.{opened}

@@ -5,9 +5,9 @@ use mathlib.Core.Bool.{Bool, true, false, not, cond, _&&_}
 use mathlib.Core.List.{List, [], _∷_, _++_}
 use lib.Dec.{leb, eqb}
 use lib.ListN.{length, getD, take, drop}
-use Rattle.reading.specs.Texts.{bytes, oneOf}
-use Rattle.reading.specs.Readers.{Reader, run, many}
-use Rattle.reading.specs.Walks.{Met, item, refused, Walked, walk}
+use Rattle.base_readers.specs.Texts.{bytes, oneOf}
+use Rattle.base_readers.specs.Readers.{Reader, run, many}
+use Rattle.base_readers.specs.Walks.{Met, item, refused, Walked, walk}
 use Rattle.lexis_rules.specs.declared.Class.the-variants.{Blank, Name}
 use Rattle.lexis_rules.specs.Bytes.{inClass, alike}
 

@@ -4,7 +4,7 @@ use mathlib.Core.Path.{_≡_}
 use mathlib.Core.Bool.{true, false}
 use mathlib.Core.List.{List, [], _∷_, _++_}
 use lib.ListN.{length, getD}
-use Rattle.reading.specs.Walks.{item}
+use Rattle.base_readers.specs.Walks.{item}
 use Rattle.lexis_rules.specs.declared.Class.the-variants.{Blank}
 use Rattle.lexis_rules.specs.Bytes.{inClass}
 use Rattle.block_rules.specs.Fields.{Field, fieldLimit, fieldAt}

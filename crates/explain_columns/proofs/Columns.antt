@@ -8,14 +8,14 @@ use mathlib.Core.List.{List, [], _∷_, _++_, map}
 use lib.ListN.{length, getD, take, drop, length-drop, drop-of-length-le}
 use lib.Seq.{drop-cons, length-take-le, take-all}
 use borrow.Author.Tests.{eq-eqb, ne-eqb}
-use Rattle.sequences.specs.Stored.{Clipped}
-use Rattle.sequences.proofs.Clips.{clipped-then, Going, going-start, going-step, going-done}
-use Rattle.reading.specs.Texts.{bytes, same}
-use Rattle.reading.specs.Readers.{run}
-use Rattle.reading.specs.Places.{Reaches}
-use Rattle.reading.proofs.Loops.{run-on, run-off}
-use Rattle.reading.proofs.Readers.{run-fits}
-use Rattle.reading.proofs.Texts.{same-long}
+use Rattle.base_sequences.specs.Stored.{Clipped}
+use Rattle.base_sequences.proofs.Clips.{clipped-then, Going, going-start, going-step, going-done}
+use Rattle.base_readers.specs.Texts.{bytes, same}
+use Rattle.base_readers.specs.Readers.{run}
+use Rattle.base_readers.specs.Places.{Reaches}
+use Rattle.base_readers.proofs.Loops.{run-on, run-off}
+use Rattle.base_readers.proofs.Readers.{run-fits}
+use Rattle.base_readers.proofs.Texts.{same-long}
 use Rattle.lexis_rules.specs.declared.Class.the-variants.{Visible}
 use Rattle.lexis_rules.specs.Bytes.{inClass}
 use Rattle.explain_rules.specs.declared.Line.{Line}

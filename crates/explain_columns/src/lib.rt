@@ -10,8 +10,8 @@ ghost use mathlib.Core.Path.{_≡_};
 ghost use mathlib.Core.List.{[], _∷_, _++_, map};
 ghost use Prim.Native.Nat.{_+_};
 ghost use lib.ListN.{drop};
-ghost use Rattle.sequences.specs.Stored.{Clipped};
-ghost use Rattle.reading.specs.Readers.{run};
+ghost use Rattle.base_sequences.specs.Stored.{Clipped};
+ghost use Rattle.base_readers.specs.Readers.{run};
 ghost use Rattle.explain_rules.specs.Explained.{column, behind, kindOf, kindOfLine, shown, text};
 ghost use Rattle.explain_columns.specs.Until.{except};
 
@@ -67,13 +67,13 @@ fn kind_of(w: &[u8]) -> Line
     if w.len() == 1 {
         return kind_of_letter(w[0]);
     }
-    if same_bytes::is_same(w, b"field") {
+    if text_compare::exact::is_same(w, b"field") {
         return Line::Field;
     }
-    if same_bytes::is_same(w, b"id") {
+    if text_compare::exact::is_same(w, b"id") {
         return Line::Identifier;
     }
-    if same_bytes::is_same(w, b"none") {
+    if text_compare::exact::is_same(w, b"none") {
         return Line::NoResult;
     }
     Line::Other
@@ -90,7 +90,7 @@ pub fn kind_of_line(l: &[u8]) -> Line
 fn shown(b: u8) -> u8
     ensures { λ r. ⌜ r ≡ shown b ⌝ }
 {
-    if items::in_class(Class::Visible, b) {
+    if lexis_classes::in_class(Class::Visible, b) {
         return b;
     }
     b'?'
@@ -103,7 +103,7 @@ pub fn put_shown(part: &[u8], out: &mut [u8], to: usize) -> usize
     let mut n = to;
     let mut i: usize = 0;
     while i < part.len() {
-        n = texts::put_byte(shown(part[i]), out, n);
+        n = text_write::put_byte(shown(part[i]), out, n);
         i += 1;
     }
     n
@@ -113,6 +113,6 @@ pub fn put_shown(part: &[u8], out: &mut [u8], to: usize) -> usize
 pub fn put_labelled(label: &[u8], l: &[u8], out: &mut [u8], to: usize) -> usize
     ensures { λ r. ⌜ Clipped (now (out .entry)) to (now (label .entry) ++ text (now (l .entry))) (now (out .exit)) r ⌝ }
 {
-    let a = texts::put_part(label, out, to);
+    let a = text_write::put_part(label, out, to);
     put_shown(column(l), out, a)
 }

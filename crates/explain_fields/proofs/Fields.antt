@@ -7,12 +7,12 @@ use mathlib.Core.Bool.{Bool, true, false}
 use mathlib.Core.List.{List, [], _∷_, _++_, map, append-assoc}
 use lib.ListN.{length, getD}
 use borrow.Author.Tests.{eq-eqb, ne-eqb}
-use Rattle.sequences.specs.Stored.{Clipped}
-use Rattle.sequences.proofs.Clips.{clipped-long, clipped-then}
-use Rattle.reading.specs.Texts.{bytes, same}
-use Rattle.reading.specs.Readers.{run}
-use Rattle.reading.proofs.Texts.{same-long}
-use Rattle.phrases.specs.Phrases.{start, phrase}
+use Rattle.base_sequences.specs.Stored.{Clipped}
+use Rattle.base_sequences.proofs.Clips.{clipped-long, clipped-then}
+use Rattle.base_readers.specs.Texts.{bytes, same}
+use Rattle.base_readers.specs.Readers.{run}
+use Rattle.base_readers.proofs.Texts.{same-long}
+use Rattle.text_write.specs.Phrases.{start, phrase}
 use Rattle.explain_rules.specs.Explained.{column, behind, shown, text, whoseWords, answerWords, countWords, fieldWords}
 use Rattle.explain_fields.specs.Internal.{whoses, answers, results, resultsWords, answerOn, whoseOn}
 

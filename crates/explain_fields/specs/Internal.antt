@@ -2,7 +2,7 @@
 use Prim.Native.Nat.{ℕ}
 use mathlib.Core.Bool.{cond}
 use mathlib.Core.List.{List, _++_}
-use Rattle.reading.specs.Texts.{bytes, same}
+use Rattle.base_readers.specs.Texts.{bytes, same}
 use Rattle.explain_rules.specs.Explained.{column, behind, whoseWords, answerWords, countWords}
 
 -- the columns of the line of a field: the last two, and those from the second on

@@ -4,9 +4,9 @@
 // room for in `out` from `to` on, changes no other byte, and returns the place after the whole text, at most the largest place, which no buffer reaches.
 ghost use mathlib.Core.Path.{_≡_};
 ghost use mathlib.Core.List.{[], _∷_, _++_, map};
-ghost use Rattle.sequences.specs.Stored.{Clipped};
-ghost use Rattle.reading.specs.Texts.{bytes, same};
-ghost use Rattle.phrases.specs.Phrases.{phrase};
+ghost use Rattle.base_sequences.specs.Stored.{Clipped};
+ghost use Rattle.base_readers.specs.Texts.{bytes, same};
+ghost use Rattle.text_write.specs.Phrases.{phrase};
 ghost use Rattle.explain_rules.specs.Explained.{shown, whoseWords, answerWords, countWords, fieldWords};
 ghost use Rattle.explain_fields.specs.Internal.{whoses, answers, results, resultsWords, whoseOn, answerOn};
 
@@ -37,7 +37,7 @@ fn results_place(w: &[u8]) -> usize
 fn put_results(w: &[u8], out: &mut [u8], to: usize) -> usize
     ensures { λ r. ⌜ Clipped (now (out .entry)) to (resultsWords (now (w .entry))) (now (out .exit)) r ⌝ }
 {
-    phrases::put_phrase(
+    text_write::phrases::put_phrase(
         b" result of a newer version or not known: not shown| results of a newer version or not known: not shown",
         results_place(w),
         out,
@@ -49,7 +49,7 @@ fn put_results(w: &[u8], out: &mut [u8], to: usize) -> usize
 fn put_counted(w: &[u8], out: &mut [u8], to: usize) -> usize
     ensures { λ r. ⌜ Clipped (now (out .entry)) to (bytes "; " ++ map shown (now (w .entry))) (now (out .exit)) r ⌝ }
 {
-    let a = texts::put_part(b"; ", out, to);
+    let a = text_write::put_part(b"; ", out, to);
     explain_columns::put_shown(w, out, a)
 }
 
@@ -81,7 +81,7 @@ fn answer_place(w: &[u8]) -> usize
 fn put_answer(w: &[u8], out: &mut [u8], to: usize) -> usize
     ensures { λ r. ⌜ Clipped (now (out .entry)) to (answerWords (now (w .entry))) (now (out .exit)) r ⌝ }
 {
-    phrases::put_phrase(
+    text_write::phrases::put_phrase(
         b"; of a newer version: what it says is not read|; not well-formed: nothing of it is shown|",
         answer_place(w),
         out,
@@ -93,10 +93,10 @@ fn put_answer(w: &[u8], out: &mut [u8], to: usize) -> usize
 fn whose_place(w: &[u8]) -> usize
     ensures { λ r. ⌜ phrase r whoses ≡ whoseWords (now (w .entry)) ⌝ }
 {
-    if same_bytes::is_same(w, b"own") {
+    if text_compare::exact::is_same(w, b"own") {
         return 0;
     }
-    if same_bytes::is_same(w, b"other") {
+    if text_compare::exact::is_same(w, b"other") {
         return 1;
     }
     2
@@ -106,7 +106,7 @@ fn whose_place(w: &[u8]) -> usize
 fn put_whose(w: &[u8], out: &mut [u8], to: usize) -> usize
     ensures { λ r. ⌜ Clipped (now (out .entry)) to (whoseWords (now (w .entry))) (now (out .exit)) r ⌝ }
 {
-    phrases::put_phrase(
+    text_write::phrases::put_phrase(
         b"in our own name: strip removes it|another's word: strip keeps it|its identifier can't be read: strip removes it",
         whose_place(w),
         out,
@@ -136,6 +136,6 @@ pub fn put_field(l: &[u8], out: &mut [u8], to: usize) -> usize
     ensures { λ r. ⌜ Clipped (now (out .entry)) to (fieldWords (now (l .entry))) (now (out .exit)) r ⌝ }
 {
     let a = explain_columns::put_labelled(b"Field ", l, out, to);
-    let b = texts::put_part(b": ", out, a);
+    let b = text_write::put_part(b": ", out, a);
     put_owner(explain_columns::behind(l), out, b)
 }

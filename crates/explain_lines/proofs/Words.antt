@@ -5,11 +5,11 @@ use native.Mathlib.Omega.{arith}
 use mathlib.Core.Path.{_≡_, refl}
 use mathlib.Core.List.{List, [], _++_, map}
 use lib.ListN.{length}
-use Rattle.sequences.specs.Stored.{Clipped}
-use Rattle.sequences.proofs.Clips.{clipped-long, clipped-then}
-use Rattle.reading.specs.Texts.{bytes}
-use Rattle.reading.specs.Readers.{run}
-use Rattle.phrases.specs.Phrases.{start, phrase}
+use Rattle.base_sequences.specs.Stored.{Clipped}
+use Rattle.base_sequences.proofs.Clips.{clipped-long, clipped-then}
+use Rattle.base_readers.specs.Texts.{bytes}
+use Rattle.base_readers.specs.Readers.{run}
+use Rattle.text_write.specs.Phrases.{start, phrase}
 use Rattle.explain_rules.specs.declared.Line.{Line}
 use Rattle.explain_rules.specs.declared.Line.the-variants.{Field, Identifier, Version, NoResult, Method, Reason, Property, Other}
 use Rattle.explain_rules.specs.Explained.{column, behind, kindOfLine, shown, text, fieldWords, methodWords, propertyWords, words, lineWords}

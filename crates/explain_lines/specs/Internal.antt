@@ -1,7 +1,7 @@
 -- The labels of a line with one column, for private functions. No public contract cites these. Assumes nothing: this is a definition.
 use Prim.Native.Nat.{ℕ}
 use mathlib.Core.List.{List}
-use Rattle.reading.specs.Texts.{bytes}
+use Rattle.base_readers.specs.Texts.{bytes}
 
 abbrev pub labels : List ℕ
 labels = bytes "  checked by |  header version |, reason: "

@@ -4,8 +4,8 @@
 // from `to` on, changes no other byte, and returns the place after the whole text, at most the largest place, which no buffer reaches.
 use explain_rules::Line;
 ghost use mathlib.Core.List.{_++_};
-ghost use Rattle.sequences.specs.Stored.{Clipped};
-ghost use Rattle.phrases.specs.Phrases.{phrase};
+ghost use Rattle.base_sequences.specs.Stored.{Clipped};
+ghost use Rattle.text_write.specs.Phrases.{phrase};
 ghost use Rattle.explain_rules.specs.Explained.{text, methodWords, propertyWords, words, lineWords};
 ghost use Rattle.explain_lines.specs.Internal.{labels};
 
@@ -32,7 +32,12 @@ fn put_property(l: &[u8], out: &mut [u8], to: usize) -> usize
 fn put_named(n: usize, l: &[u8], out: &mut [u8], to: usize) -> usize
     ensures { λ r. ⌜ Clipped (now (out .entry)) to (phrase n labels ++ text (now (l .entry))) (now (out .exit)) r ⌝ }
 {
-    let a = phrases::put_phrase(b"  checked by |  header version |, reason: ", n, out, to);
+    let a = text_write::phrases::put_phrase(
+        b"  checked by |  header version |, reason: ",
+        n,
+        out,
+        to,
+    );
     explain_columns::put_shown(explain_columns::column(l), out, a)
 }
 
@@ -44,7 +49,7 @@ fn put_words(k: Line, l: &[u8], out: &mut [u8], to: usize) -> usize
         Line::Field => explain_fields::put_field(l, out, to),
         Line::Identifier => put_named(0, l, out, to),
         Line::Version => put_named(1, l, out, to),
-        Line::NoResult => texts::put_part(b"  no results", out, to),
+        Line::NoResult => text_write::put_part(b"  no results", out, to),
         Line::Method => put_method(l, out, to),
         Line::Reason => put_named(2, l, out, to),
         Line::Property => put_property(l, out, to),

@@ -1,10 +1,10 @@
 -- What is said of a report, at worked examples, by computing it. Assumes nothing.
 use mathlib.Core.Path.{_≡_, refl}
 use mathlib.Core.List.{[], _∷_}
-use Rattle.reading.specs.Texts.{bytes, within, same}
-use Rattle.reading.specs.Readers.{run}
+use Rattle.base_readers.specs.Texts.{bytes, within, same}
+use Rattle.base_readers.specs.Readers.{run}
 use Rattle.lexis_rules.specs.Bytes.{inClass}
-use Rattle.authserv_rules.specs.Spelled.{linesOf}
+use Rattle.identifier_rules.specs.Spelled.{linesOf}
 use Rattle.explain_rules.specs.Explained.{kindOf, kindOfLine, shown, text, whoseWords, answerWords, countWords, fieldWords, methodWords, propertyWords, words, goesOn, ended, linesWords, explained}
 use Rattle.explain_rules.specs.declared.Line.the-variants.{Field, Identifier, Version, NoResult, Method, Reason, Property, Other}
 

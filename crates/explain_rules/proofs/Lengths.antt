@@ -7,11 +7,11 @@ use mathlib.Core.List.{List, [], _∷_, _++_, map}
 use lib.Dec.{eqb, lit≤}
 use lib.ListN.{length, length-append, length-drop, length-map}
 use lib.Seq.{length-take-le}
-use Rattle.reading.specs.Readers.{run}
-use Rattle.reading.specs.Texts.{bytes, same}
-use Rattle.reading.proofs.Readers.{run-fits}
+use Rattle.base_readers.specs.Readers.{run}
+use Rattle.base_readers.specs.Texts.{bytes, same}
+use Rattle.base_readers.proofs.Readers.{run-fits}
 use Rattle.punycode_rules.specs.Labels.{onFirst}
-use Rattle.authserv_rules.specs.Spelled.{linesOf}
+use Rattle.identifier_rules.specs.Spelled.{linesOf}
 use Rattle.explain_rules.specs.declared.Line.{Line}
 use Rattle.explain_rules.specs.declared.Line.the-variants.{Field, Identifier, Version, NoResult, Method, Reason, Property, Other}
 use Rattle.explain_rules.specs.Explained.{inColumn, column, behind, kindOfLine, shown, text, whoseWords, answerWords, countWords, fieldWords, methodWords, propertyWords, words, lineWords, goesOn, ended, linesWords}

@@ -10,9 +10,9 @@ use mathlib.Core.Logic.{_⊎_, inl, inr}
 use lib.Dec.{eqb, leb}
 use lib.ListN.{length, getD}
 use borrow.Author.Tests.{eqb-true, leb-true, le-leb}
-use Rattle.sequences.proofs.Booleans.{and-left, and-right, or-right}
-use Rattle.reading.specs.Texts.{bytes, within, same}
-use Rattle.reading.proofs.Texts.{all}
+use Rattle.base_sequences.proofs.Booleans.{and-left, and-right, or-right}
+use Rattle.base_readers.specs.Texts.{bytes, within, same}
+use Rattle.base_readers.proofs.Texts.{all}
 use Rattle.lexis_rules.specs.Bytes.{inClass}
 use Rattle.explain_rules.specs.declared.Line.{Line}
 use Rattle.explain_rules.specs.declared.Line.the-variants.{Field, Identifier, Version, NoResult, Method, Reason, Property, Other}

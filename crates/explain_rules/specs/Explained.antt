@@ -1,4 +1,4 @@
--- What a report says to a person: the lines of the report of a block (reports_rules), in words. Each field has a line that says whose word it is
+-- What a report says to a person: the lines of the report of a block (blockreport_rules), in words. Each field has a line that says whose word it is
 -- and what is not shown of it, then one with its identifier, and one for each result with its reason and its properties. No text of a report has
 -- a space, so none can look like a part that it is not. Assumes nothing: these are definitions.
 use Prim.Native.Char.{code}
@@ -7,11 +7,11 @@ use mathlib.Core.Bool.{Bool, true, false, cond, not}
 use mathlib.Core.List.{List, [], _∷_, _++_, map}
 use lib.Dec.{eqb}
 use lib.ListN.{take, drop}
-use Rattle.reading.specs.Texts.{bytes, same}
-use Rattle.reading.specs.Readers.{run}
+use Rattle.base_readers.specs.Texts.{bytes, same}
+use Rattle.base_readers.specs.Readers.{run}
 use Rattle.lexis_rules.specs.declared.Class.the-variants.{Visible}
 use Rattle.lexis_rules.specs.Bytes.{inClass}
-use Rattle.authserv_rules.specs.Spelled.{linesOf}
+use Rattle.identifier_rules.specs.Spelled.{linesOf}
 use Rattle.explain_rules.specs.declared.Line.{Line}
 use Rattle.explain_rules.specs.declared.Line.the-variants.{Field, Identifier, Version, NoResult, Method, Reason, Property, Other}
 

@@ -4,15 +4,15 @@ use mathlib.Core.Path.{_≡_, refl, sym, _∙_}
 use mathlib.Core.Bool.{Bool, true, false, _&&_, _||_}
 use lib.Dec.{eqb, ltb}
 use borrow.Author.Tests.{eqb-true, ne-eqb}
-use Rattle.sequences.proofs.Booleans.{no-true, both, and-right, or-none}
-use Rattle.reading.specs.Texts.{within, oneOf, same}
+use Rattle.base_sequences.proofs.Booleans.{no-true, both, and-right, or-none}
+use Rattle.base_readers.specs.Texts.{within, oneOf, same}
 use Rattle.lexis_rules.specs.declared.Class.{Class}
 use Rattle.lexis_rules.specs.declared.Class.the-variants.{Blank, Opening, Zero, Digit, Keyword, Token, Quoted, Comment, Escaped, Name, Visible, Delimiter, Tag}
 use Rattle.lexis_rules.specs.Bytes.{inClass, letter, lower, alike}
 use mathlib.Core.List.{List, [], _∷_, map}
 use lib.ListN.{length, drop, length-map}
-use Rattle.reading.proofs.Texts.{same-long}
-use Rattle.reading.proofs.Loops.{unstopped}
+use Rattle.base_readers.proofs.Texts.{same-long}
+use Rattle.base_readers.proofs.Loops.{unstopped}
 
 -- 0, which stands for the end, is in no class
 pub class-zero : (c : Class) → inClass c 0 ≡ false

@@ -1,5 +1,5 @@
 -- How far what follows can change what a piece is: not at all behind a comment or a quoted string; else by what comes next, and the
--- condition on that is the weakest one, for it holds behind every such piece. Each law is one of `reading` at the piece's combinators.
+-- condition on that is the weakest one, for it holds behind every such piece. Each law is one of `base_readers` at the piece's combinators.
 -- Assumes nothing.
 use Prim.Native.Char.{code}
 use Prim.Native.Nat.{ℕ, zero, suc, _≤_}
@@ -9,12 +9,12 @@ use mathlib.Core.Path.{_≡_, refl, _∙_}
 use mathlib.Core.Bool.{Bool, true, false, cond, _&&_}
 use mathlib.Core.List.{List, [], _∷_}
 use lib.ListN.{getD, drop}
-use Rattle.reading.specs.Texts.{within, oneOf, outside}
-use Rattle.reading.specs.Readers.{Reader, run, choose}
-use Rattle.reading.specs.Locality.{Any, Ends, Follows, Local, Leaves, Shut}
-use Rattle.reading.proofs.Texts.{starts-first, follows-not}
-use Rattle.reading.proofs.Readers.{many-none, choose-no, passing-inv}
-use Rattle.reading.proofs.Local.{local-weaker, run-local, many-local, choose-local, between-local, passing-local, choose-shut, between-shut, run-leaves, many-leaves, many-zero}
+use Rattle.base_readers.specs.Texts.{within, oneOf, outside}
+use Rattle.base_readers.specs.Readers.{Reader, run, choose}
+use Rattle.base_readers.specs.Locality.{Any, Ends, Follows, Local, Leaves, Shut}
+use Rattle.base_readers.proofs.Texts.{starts-first, follows-not}
+use Rattle.base_readers.proofs.Readers.{many-none, choose-no, passing-inv}
+use Rattle.base_readers.proofs.Local.{local-weaker, run-local, many-local, choose-local, between-local, passing-local, choose-shut, between-shut, run-leaves, many-leaves, many-zero}
 use Rattle.lexis_rules.specs.declared.Class.{Class}
 use Rattle.lexis_rules.specs.declared.Class.the-variants.{Blank, Opening, Digit, Keyword, Token, Quoted, Comment}
 use Rattle.lexis_rules.specs.Bytes.{inClass}

@@ -10,11 +10,11 @@ use lib.Dec.{eqb, leb}
 use lib.ListN.{length, getD, take, drop}
 use lib.Seq.{getD-drop, take-take}
 use borrow.Author.Tests.{eq-eqb, ne-eqb, eqb-true, eqb-false, leb-true}
-use Rattle.sequences.proofs.Booleans.{both, and-left}
-use Rattle.sequences.proofs.Lists.{drop-take}
-use Rattle.reading.specs.Texts.{within}
-use Rattle.reading.specs.Readers.{run}
-use Rattle.reading.proofs.Readers.{run-more, run-take}
+use Rattle.base_sequences.proofs.Booleans.{both, and-left}
+use Rattle.base_sequences.proofs.Lists.{drop-take}
+use Rattle.base_readers.specs.Texts.{within}
+use Rattle.base_readers.specs.Readers.{run}
+use Rattle.base_readers.proofs.Readers.{run-more, run-take}
 use Rattle.lexis_rules.specs.declared.Class.the-variants.{Digit, Zero}
 use Rattle.lexis_rules.specs.Bytes.{inClass}
 use Rattle.lexis_rules.specs.Pieces.{digits, zeros, leading, decimal}

@@ -8,10 +8,10 @@ use mathlib.Core.List.{List, [], _∷_, _++_}
 use lib.Dec.{eqb}
 use lib.ListN.{length, getD, take, drop}
 use lib.Seq.{drop-drop}
-use Rattle.sequences.proofs.Booleans.{and-right, cond-le}
-use Rattle.reading.specs.Readers.{Reader, run, many, choose, between, lasts}
-use Rattle.reading.specs.Locality.{Fits}
-use Rattle.reading.proofs.Readers.{there, run-fits, many-fits, lasts-run, choose-fits, between-fits, passing-fits}
+use Rattle.base_sequences.proofs.Booleans.{and-right, cond-le}
+use Rattle.base_readers.specs.Readers.{Reader, run, many, choose, between, lasts}
+use Rattle.base_readers.specs.Locality.{Fits}
+use Rattle.base_readers.proofs.Readers.{there, run-fits, many-fits, lasts-run, choose-fits, between-fits, passing-fits}
 use Rattle.lexis_rules.specs.declared.Class.{Class}
 use Rattle.lexis_rules.specs.declared.Class.the-variants.{Blank, Quoted, Comment, Escaped}
 use Rattle.lexis_rules.specs.Bytes.{inClass}

@@ -1,5 +1,5 @@
 -- The pieces as parsers: what each takes is there, what comes first where it succeeds, and what may follow it without changing it. These
--- are what the steadiness of larger parts is put together from. Each law is one of `reading` at the piece's reader. Assumes nothing.
+-- are what the steadiness of larger parts is put together from. Each law is one of `base_readers` at the piece's reader. Assumes nothing.
 use Prim.Native.Char.{code}
 use Prim.Native.Nat.{ℕ, zero, suc}
 use native.Mathlib.Omega.{arith}
@@ -8,17 +8,17 @@ use mathlib.Core.Bool.{Bool, true, false, _||_}
 use mathlib.Core.List.{List, [], _∷_}
 use lib.Dec.{eqb}
 use lib.ListN.{getD}
-use Rattle.sequences.proofs.Booleans.{or-left, or-right}
-use Rattle.reading.specs.Texts.{outside, same, starts, follows}
-use Rattle.reading.specs.Readers.{run, choose}
-use Rattle.reading.specs.Parsers.{Parser, _>>=_, _>>_, give, when, skipping, text, pass}
-use Rattle.reading.specs.Locality.{Within, Any, Ends, Starts, Follows, Local, Steady, Opens}
-use Rattle.reading.proofs.Texts.{starts-first, starts-not, starts-weaker}
-use Rattle.reading.proofs.Readers.{run-fits, run-first, choose-yes, choose-no, between-first, passing-inv}
-use Rattle.reading.proofs.Sequencing.{when-inv}
-use Rattle.reading.proofs.Bounds.{bind-within, skipping-within, pass-within, text-within, give-within, when-within}
-use Rattle.reading.proofs.Openings.{bind-opens, text-opens, pass-opens}
-use Rattle.reading.proofs.Steadiness.{skipping-steady, pass-steady, text-steady, map-steady, zero-steady, when-steady}
+use Rattle.base_sequences.proofs.Booleans.{or-left, or-right}
+use Rattle.base_readers.specs.Texts.{outside, same, starts, follows}
+use Rattle.base_readers.specs.Readers.{run, choose}
+use Rattle.base_readers.specs.Parsers.{Parser, _>>=_, _>>_, give, when, skipping, text, pass}
+use Rattle.base_readers.specs.Locality.{Within, Any, Ends, Starts, Follows, Local, Steady, Opens}
+use Rattle.base_readers.proofs.Texts.{starts-first, starts-not, starts-weaker}
+use Rattle.base_readers.proofs.Readers.{run-fits, run-first, choose-yes, choose-no, between-first, passing-inv}
+use Rattle.base_readers.proofs.Sequencing.{when-inv}
+use Rattle.base_readers.proofs.Bounds.{bind-within, skipping-within, pass-within, text-within, give-within, when-within}
+use Rattle.base_readers.proofs.Openings.{bind-opens, text-opens, pass-opens}
+use Rattle.base_readers.proofs.Steadiness.{skipping-steady, pass-steady, text-steady, map-steady, zero-steady, when-steady}
 use Rattle.lexis_rules.specs.declared.Class.the-variants.{Opening, Digit, Keyword, Token}
 use Rattle.lexis_rules.specs.Bytes.{inClass}
 use Rattle.lexis_rules.specs.Pieces.{space, token, quoted, value, unhyphened, keyword, digits}

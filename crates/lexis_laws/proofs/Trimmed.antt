@@ -10,12 +10,12 @@ use lib.Dec.{eqb}
 use lib.ListN.{length, drop, take, getD}
 use lib.Seq.{getD-take, length-take-le, getD-drop}
 use borrow.Author.Tests.{not-true, eqb-true}
-use Rattle.sequences.proofs.Booleans.{both, no-true, true-not}
-use Rattle.reading.specs.Texts.{within, oneOf, outside, follows}
-use Rattle.reading.specs.Readers.{Reader, run}
-use Rattle.reading.specs.Locality.{Follows}
-use Rattle.reading.proofs.Texts.{follows-not, starts-first}
-use Rattle.reading.proofs.Readers.{run-more, run-none, run-ends, run-fits, passing-yes, passing-inv}
+use Rattle.base_sequences.proofs.Booleans.{both, no-true, true-not}
+use Rattle.base_readers.specs.Texts.{within, oneOf, outside, follows}
+use Rattle.base_readers.specs.Readers.{Reader, run}
+use Rattle.base_readers.specs.Locality.{Follows}
+use Rattle.base_readers.proofs.Texts.{follows-not, starts-first}
+use Rattle.base_readers.proofs.Readers.{run-more, run-none, run-ends, run-fits, passing-yes, passing-inv}
 use Rattle.lexis_rules.specs.declared.Class.the-variants.{Keyword}
 use Rattle.lexis_rules.specs.Bytes.{inClass, letter}
 use Rattle.lexis_rules.specs.Pieces.{unhyphened, keyword}

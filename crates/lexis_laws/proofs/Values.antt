@@ -11,15 +11,15 @@ use lib.Dec.{eqb}
 use lib.ListN.{length, getD, take, drop, take-append-drop, length-drop}
 use lib.Seq.{length-take-le, getD-drop}
 use borrow.Author.Tests.{eqb-true}
-use Rattle.sequences.proofs.Booleans.{no-true}
-use Rattle.sequences.proofs.Lists.{getD-behind, drop-take}
-use Rattle.reading.specs.Readers.{Reader, many, choose, lasts}
-use Rattle.reading.specs.Parsers.{Got, nothing, got, _>>=_, give, text}
-use Rattle.reading.specs.Places.{from}
-use Rattle.reading.specs.Locality.{Ends}
-use Rattle.reading.proofs.Readers.{choose-yes, choose-no, between-is, between-first}
-use Rattle.reading.proofs.Local.{lasts-at}
-use Rattle.reading.proofs.Places.{goes-on, stops, gives, text-at, text-none}
+use Rattle.base_sequences.proofs.Booleans.{no-true}
+use Rattle.base_sequences.proofs.Lists.{getD-behind, drop-take}
+use Rattle.base_readers.specs.Readers.{Reader, many, choose, lasts}
+use Rattle.base_readers.specs.Parsers.{Got, nothing, got, _>>=_, give, text}
+use Rattle.base_readers.specs.Places.{from}
+use Rattle.base_readers.specs.Locality.{Ends}
+use Rattle.base_readers.proofs.Readers.{choose-yes, choose-no, between-is, between-first}
+use Rattle.base_readers.proofs.Local.{lasts-at}
+use Rattle.base_readers.proofs.Places.{goes-on, stops, gives, text-at, text-none}
 use Rattle.lexis_rules.specs.declared.Class.the-variants as class
 use Rattle.lexis_rules.specs.declared.Value.{Value}
 use Rattle.lexis_rules.specs.declared.Value.the-variants.{Token, Quoted, Nothing}

@@ -12,11 +12,11 @@ use lib.Dec.{eqb, leb}
 use lib.ListN.{length, getD, take, drop, length-drop}
 use lib.Seq.{getD-drop, drop-cons, drop-drop}
 use borrow.Author.Tests.{ne-eqb, eqb-true, eqb-false, le-leb, lt-leb, leb-true, leb-false}
-use Rattle.sequences.proofs.Booleans.{and-left, and-right, and-none, cond-le}
-use Rattle.reading.specs.Texts.{bytes, same, within}
-use Rattle.reading.specs.Readers.{run}
-use Rattle.reading.proofs.Texts.{same-eq}
-use Rattle.reading.proofs.Readers.{run-more, run-fits, run-from}
+use Rattle.base_sequences.proofs.Booleans.{and-left, and-right, and-none, cond-le}
+use Rattle.base_readers.specs.Texts.{bytes, same, within}
+use Rattle.base_readers.specs.Readers.{run}
+use Rattle.base_readers.proofs.Texts.{same-eq}
+use Rattle.base_readers.proofs.Readers.{run-more, run-fits, run-from}
 use Rattle.lexis_rules.specs.declared.Class.the-variants.{Digit, Zero}
 use Rattle.lexis_rules.specs.declared.VersionNumber.{VersionNumber}
 use Rattle.lexis_rules.specs.declared.VersionNumber.the-variants.{Exact, Large}

@@ -3,7 +3,7 @@ use Prim.Native.Nat.{ℕ, zero, suc, _+_, _-_}
 use mathlib.Core.Path.{_≡_, refl}
 use mathlib.Core.Bool.{Bool, true, false}
 use mathlib.Core.List.{List, [], _∷_, _++_, map}
-use Rattle.reading.specs.Texts.{bytes}
+use Rattle.base_readers.specs.Texts.{bytes}
 use Rattle.lexis_rules.specs.declared.Class.the-variants.{Blank, Opening, Zero, Digit, Keyword, Token, Quoted, Comment, Escaped, Name, Visible, Delimiter, Tag}
 use Rattle.lexis_rules.specs.Limits.{byteLimit, depthLimit}
 use Rattle.lexis_rules.specs.Bytes.{inClass, letter, lower}

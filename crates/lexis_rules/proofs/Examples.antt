@@ -6,9 +6,9 @@ use mathlib.Core.Path.{_≡_, refl}
 use mathlib.Core.Bool.{Bool, true, false}
 use mathlib.Core.List.{List, [], _∷_, _++_, map}
 use lib.ListN.{take}
-use Rattle.reading.specs.Texts.{bytes, within, oneOf, same}
-use Rattle.reading.specs.Readers.{Reader, run, many, choose, between, passing, lasts}
-use Rattle.reading.proofs.Cases.{Case, case, Says, copies}
+use Rattle.base_readers.specs.Texts.{bytes, within, oneOf, same}
+use Rattle.base_readers.specs.Readers.{Reader, run, many, choose, between, passing, lasts}
+use Rattle.base_readers.proofs.Cases.{Case, case, Says, copies}
 use Rattle.lexis_rules.specs.declared.Class.{Class}
 use Rattle.lexis_rules.specs.declared.Class.the-variants.{Blank, Opening, Zero, Digit, Keyword, Token, Quoted, Comment, Escaped, Name, Visible, Delimiter, Tag}
 use Rattle.lexis_rules.specs.Bytes.{inClass, letter, lower, alike}

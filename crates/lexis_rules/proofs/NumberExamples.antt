@@ -2,9 +2,9 @@
 use mathlib.Core.Path.{refl}
 use mathlib.Core.Bool.{true, false}
 use mathlib.Core.List.{[], _∷_}
-use Rattle.reading.specs.Texts.{bytes}
-use Rattle.reading.specs.Parsers.{nothing, got, after, _>>=_, give, text}
-use Rattle.reading.proofs.Cases.{case, Says}
+use Rattle.base_readers.specs.Texts.{bytes}
+use Rattle.base_readers.specs.Parsers.{nothing, got, after, _>>=_, give, text}
+use Rattle.base_readers.proofs.Cases.{case, Says}
 use Rattle.lexis_rules.specs.declared.VersionNumber.the-variants.{Exact, Large}
 use Rattle.lexis_rules.specs.Words.{readNumber}
 use Rattle.lexis_rules.specs.Numbers.{numberOf, isOne}

@@ -1,9 +1,9 @@
 -- The small pieces as parsers that yield their texts, and the code's answers at a place, at worked examples, computed. Assumes nothing.
 use mathlib.Core.Path.{_≡_, refl}
 use mathlib.Core.List.{[], _∷_, map}
-use Rattle.reading.specs.Texts.{bytes}
-use Rattle.reading.specs.Parsers.{nothing, got, after, _>>=_, give, when, skipping, text, pass}
-use Rattle.reading.proofs.Cases.{case, Says}
+use Rattle.base_readers.specs.Texts.{bytes}
+use Rattle.base_readers.specs.Parsers.{nothing, got, after, _>>=_, give, when, skipping, text, pass}
+use Rattle.base_readers.proofs.Cases.{case, Says}
 use Rattle.lexis_rules.specs.declared.Value.the-variants.{Token, Quoted, Nothing}
 use Rattle.lexis_rules.specs.declared.VersionNumber.the-variants.{Exact, Large}
 use Rattle.lexis_rules.specs.Words.{skip, gap, readValue, readKeyword, readWord, readDigits}

@@ -5,7 +5,7 @@ use mathlib.Core.Bool.{true, false}
 use mathlib.Core.List.{List}
 use lib.Dec.{eqb}
 use lib.ListN.{getD, take, drop}
-use Rattle.reading.specs.Parsers.{Got, nothing, got}
+use Rattle.base_readers.specs.Parsers.{Got, nothing, got}
 use Rattle.lexis_rules.specs.declared.Value.{Value}
 use Rattle.lexis_rules.specs.declared.Value.the-variants.{Token, Quoted, Nothing}
 use Rattle.lexis_rules.specs.declared.Digits.{Digits}

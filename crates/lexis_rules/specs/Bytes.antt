@@ -4,7 +4,7 @@ use Prim.Native.Nat.{ℕ, _+_}
 use mathlib.Core.Bool.{Bool, true, false, not, cond, _&&_, _||_}
 use mathlib.Core.List.{List, map}
 use lib.Dec.{leb, eqb}
-use Rattle.reading.specs.Texts.{bytes, within, oneOf, same}
+use Rattle.base_readers.specs.Texts.{bytes, within, oneOf, same}
 use Rattle.lexis_rules.specs.declared.Class.{Class}
 use Rattle.lexis_rules.specs.declared.Class.the-variants.{Blank, Opening, Zero, Digit, Keyword, Token, Quoted, Comment, Escaped, Name, Visible, Delimiter, Tag}
 

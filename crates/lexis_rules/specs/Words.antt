@@ -5,9 +5,9 @@ use mathlib.Core.Bool.{true, false}
 use mathlib.Core.List.{List, [], _∷_, map}
 use lib.Dec.{eqb}
 use lib.ListN.{getD, take, drop}
-use Rattle.reading.specs.Texts.{same}
-use Rattle.reading.specs.Readers.{lasts}
-use Rattle.reading.specs.Parsers.{Parser, _>>=_, _>>_, give, when, skipping, text, pass}
+use Rattle.base_readers.specs.Texts.{same}
+use Rattle.base_readers.specs.Readers.{lasts}
+use Rattle.base_readers.specs.Parsers.{Parser, _>>=_, _>>_, give, when, skipping, text, pass}
 use Rattle.lexis_rules.specs.declared.Class.the-variants.{Quoted}
 use Rattle.lexis_rules.specs.declared.VersionNumber.{VersionNumber}
 use Rattle.lexis_rules.specs.Bytes.{lower}

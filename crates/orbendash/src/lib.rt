@@ -1,26 +1,26 @@
 // The face for hosts: functions for C and for Rust over the library's calls, with the same answers.
 //
-// A slice is a pointer and a length. The structs that are returned, and how they are made from answers, are those of `faces`, `judge_faces` and `whose_faces`.
-use faces::NextFace;
-use faces::ReportFace;
-use faces::StripFace;
-use faces::WriteFace;
-use judge_faces::JudgeFace;
-use whose_faces::WhoseFace;
+// A slice is a pointer and a length. The structs that are returned, and how they are made from answers, are those of `host_structs` and `host_whose_struct`.
+use host_structs::NextFace;
+use host_structs::ReportFace;
+use host_structs::StripFace;
+use host_structs::WriteFace;
+use host_structs::judge::JudgeFace;
+use host_whose_struct::WhoseFace;
 ghost use mathlib.Core.Path.{_≡_};
 ghost use lib.ListN.{length};
 ghost use Rattle.strip_rules.specs.Strip.{strip};
 ghost use Rattle.strip_rules.specs.Answers as stripping;
-ghost use Rattle.body.specs.Report.{report};
-ghost use Rattle.body.specs.Answers as reporting;
+ghost use Rattle.report_rules.specs.Report.{report};
+ghost use Rattle.report_rules.specs.Answers as reporting;
 ghost use Rattle.arc_rules.specs.Chain.{judge};
-ghost use Rattle.fields_rules.specs.Steps.{stepFrom};
-ghost use Rattle.compose.specs.Compose.{compose};
-ghost use Rattle.compose.specs.Answers as writing;
-ghost use Rattle.faces.specs.Faces.{stripFace, reportFace, writeFace, nextFace};
-ghost use Rattle.judge_faces.specs.Faces.{judgeFace};
-ghost use Rattle.whose_faces.specs.Whose.{whose};
-ghost use Rattle.faces.specs.Version.{versionNumber};
+ghost use Rattle.block_walk_rules.specs.Steps.{stepFrom};
+ghost use Rattle.write_rules.specs.Compose.{compose};
+ghost use Rattle.write_rules.specs.Answers as writing;
+ghost use Rattle.host_structs.specs.Faces.{stripFace, reportFace, writeFace, nextFace};
+ghost use Rattle.host_structs.specs.JudgeFaces.{judgeFace};
+ghost use Rattle.host_whose_struct.specs.Whose.{whose};
+ghost use Rattle.host_structs.specs.Version.{versionNumber};
 
 // The block without the Authentication-Results fields that speak in our own name or in none (`strip::strip`).
 #[no_mangle]
@@ -28,7 +28,7 @@ pub extern "C" fn orbendash_strip(s: &[u8], list: &[u8], out: &mut [u8]) -> Stri
     ensures { λ r. ⌜ r ≡ stripFace (strip (now (s .entry)) (now (list .entry)) (length (now (out .entry)))) ⌝ }
     ensures { λ _. ⌜ now (out .exit) ≡ stripping.leaves (strip (now (s .entry)) (now (list .entry)) (length (now (out .entry)))) (now (out .entry)) ⌝ }
 {
-    faces::strip_face(strip::strip(s, list, out))
+    host_structs::strip_face(strip::strip(s, list, out))
 }
 
 // The report of a field body (`report::report`).
@@ -37,16 +37,16 @@ pub extern "C" fn orbendash_report(body: &[u8], out: &mut [u8]) -> ReportFace
     ensures { λ r. ⌜ r ≡ reportFace (report (now (body .entry)) (length (now (out .entry)))) ⌝ }
     ensures { λ _. ⌜ now (out .exit) ≡ reporting.leaves (report (now (body .entry)) (length (now (out .entry)))) (now (out .entry)) ⌝ }
 {
-    faces::report_face(report::report(body, out))
+    host_structs::report_face(report::report(body, out))
 }
 
-// The body that report lines say (`writing::write`).
+// The body that report lines say (`write::write`).
 #[no_mangle]
 pub extern "C" fn orbendash_write(lines: &[u8], out: &mut [u8]) -> WriteFace
     ensures { λ r. ⌜ r ≡ writeFace (compose (now (lines .entry)) (length (now (out .entry)))) ⌝ }
     ensures { λ _. ⌜ now (out .exit) ≡ writing.leaves (compose (now (lines .entry)) (length (now (out .entry)))) (now (out .entry)) ⌝ }
 {
-    faces::write_face(writing::write(lines, out))
+    host_structs::write_face(write::write(lines, out))
 }
 
 // Whether the ARC chain of a block is built, and what it says by the verdicts (`arc::judge`).
@@ -54,23 +54,23 @@ pub extern "C" fn orbendash_write(lines: &[u8], out: &mut [u8]) -> WriteFace
 pub extern "C" fn orbendash_judge(s: &[u8], verdicts: &[u8]) -> JudgeFace
     ensures { λ r. ⌜ r ≡ judgeFace (judge (now (s .entry)) (now (verdicts .entry))) ⌝ }
 {
-    judge_faces::judge_face(arc::judge(s, verdicts))
+    host_structs::judge::judge_face(arc::judge(s, verdicts))
 }
 
-// A step of the walking reader from a place: a field, or the last answer (`fields::field_from`).
+// A step of the walking reader from a place: a field, or the last answer (`block_walk::field_from`).
 #[no_mangle]
 pub extern "C" fn orbendash_next_field(s: &[u8], place: usize) -> NextFace
     ensures { λ r. ⌜ r ≡ nextFace (stepFrom (now (s .entry)) place) ⌝ }
 {
-    faces::next_face(fields::field_from(s, place))
+    host_structs::next_face(block_walk::field_from(s, place))
 }
 
-// Whose the identifier of a field body is: ours, another's, or unreadable (`owners::whose`). 1 where the body is too long, then 5 where the list is bad.
+// Whose the identifier of a field body is: ours, another's, or unreadable (`host_whose::whose`). 1 where the body is too long, then 5 where the list is bad.
 #[no_mangle]
 pub extern "C" fn orbendash_whose(list: &[u8], body: &[u8]) -> WhoseFace
     ensures { λ r. ⌜ r ≡ whose (now (list .entry)) (now (body .entry)) ⌝ }
 {
-    owners::whose(list, body)
+    host_whose::whose(list, body)
 }
 
 // The library's version as one number; that of the header it was built with is ORBENDASH_VERSION_NUMBER.
@@ -78,5 +78,5 @@ pub extern "C" fn orbendash_whose(list: &[u8], body: &[u8]) -> WhoseFace
 pub extern "C" fn orbendash_version() -> u32
     ensures { λ r. ⌜ r ≡ versionNumber ⌝ }
 {
-    faces::version()
+    host_structs::version()
 }

@@ -8,21 +8,21 @@ use mathlib.Core.Bool.{Bool, true, false}
 use mathlib.Core.List.{List, _++_}
 use lib.ListN.{length, getD, drop, take, length-drop}
 use lib.Seq.{getD-take, drop-drop, take-all}
-use Rattle.sequences.specs.Stored.{Put}
-use Rattle.sequences.proofs.Splices.{put-front, put-full}
+use Rattle.base_sequences.specs.Stored.{Put}
+use Rattle.base_sequences.proofs.Splices.{put-front, put-full}
 use Rattle.lexis_rules.specs.Words.{quotedText}
-use Rattle.authserv_rules.specs.OwnList.{ownList}
-use Rattle.authserv.specs.declared.Identifier.the-variants as identifier
-use Rattle.authserv_rules.specs.declared.Own.{Own}
-use Rattle.authserv_rules.specs.declared.Own.the-variants as whose
-use Rattle.authserv_rules.specs.Identifier as rules
-use Rattle.authserv.specs.Answers.{identifierAt, textOf}
-use Rattle.authserv_rules.specs.Listed.{ownIf, ownOf}
-use Rattle.authserv_rules.specs.Spelled.{spelledList, linesOf, amongSpelled, ownOfSpelled}
-use Rattle.authserv_rules.specs.Ends.{endsOf, cutAt}
-use Rattle.authserv.proofs.Identifiers.{identifier-found, identifier-not}
-use Rattle.authserv_laws.proofs.OwnLists.{list-own}
-use Rattle.authserv_laws.proofs.Ends.{cut-ends, part-ends, part-inside, orElse, own-both}
+use Rattle.identifier_rules.specs.OwnList.{ownList}
+use Rattle.identifier.specs.declared.Identifier.the-variants as identifier
+use Rattle.identifier_rules.specs.declared.Own.{Own}
+use Rattle.identifier_rules.specs.declared.Own.the-variants as whose
+use Rattle.identifier_rules.specs.Identifier as rules
+use Rattle.identifier.specs.Answers.{identifierAt, textOf}
+use Rattle.identifier_rules.specs.Listed.{ownIf, ownOf}
+use Rattle.identifier_rules.specs.Spelled.{spelledList, linesOf, amongSpelled, ownOfSpelled}
+use Rattle.identifier_rules.specs.Ends.{endsOf, cutAt}
+use Rattle.identifier.proofs.Identifiers.{identifier-found, identifier-not}
+use Rattle.identifier_laws.proofs.OwnLists.{list-own}
+use Rattle.identifier_laws.proofs.Ends.{cut-ends, part-ends, part-inside, orElse, own-both}
 
 module _ (lines : List (List ℕ)) (body : List ℕ) where
   pub whose-none : identifier.Unreadable ≡ identifierAt body → whose.Unreadable ≡ ownOfSpelled lines (rules.identifier body)

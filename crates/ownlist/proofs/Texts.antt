@@ -7,13 +7,13 @@ use mathlib.Core.List.{List}
 use lib.Dec.{leb}
 use lib.ListN.{length, take}
 use borrow.Author.Tests.{leb-true, leb-false, le-leb, lt-leb}
-use Rattle.sequences.specs.Stored.{Put}
-use Rattle.sequences.proofs.Splices.{put-front}
+use Rattle.base_sequences.specs.Stored.{Put}
+use Rattle.base_sequences.proofs.Splices.{put-front}
 use Rattle.punycode_rules.specs.Labels.{spelling, spellingLimit, doubleHyphen}
 use Rattle.punycode_laws.proofs.Lengths.{spelling-least}
 use Rattle.punycode_laws.proofs.Headlines.{spelling-single-hyphens}
-use Rattle.authserv_rules.specs.Spelled.{amongLines, amongSpelled}
-use Rattle.spelled_lists.proofs.Spelt.{Spelt}
+use Rattle.identifier_rules.specs.Spelled.{amongLines, amongSpelled}
+use Rattle.ownlist_spelled.proofs.Spelt.{Spelt}
 
 module _ (lines : List (List ℕ)) (t : List ℕ) where
   long-not : spellingLimit < length (spelling t) → false ≡ amongSpelled lines t

@@ -1,21 +1,21 @@
 // Whether the identifier of a body is on our own list.
 //
 // Identifiers are compared as they are spelled, with U-labels for A-labels (02, ticket [2]). Whoever asks for more than one body spells the
-// list once (`spelled_lists::spell_list`), finds where its lines end once (`line_ends::line_ends`) and asks the outcome (`whose_among`); a good list without two hyphens
+// list once (`ownlist_spelled::spell_list`), finds where its lines end once (`ownlist_lines::ends::line_ends`) and asks the outcome (`whose_among`); a good list without two hyphens
 // in a row is its own spelling. `whose_spelled` finds the ends itself. A list is taken up to its first bad entry; whether it has one is the
-// caller's to ask first (`listing::check_list`).
-use authserv::Identifier;
-use authserv_rules::Own;
-use listing::Entries;
+// caller's to ask first (`ownlist_check::check_list`).
+use identifier::Identifier;
+use identifier_rules::Own;
+use ownlist_check::Entries;
 use punycode::Spelling;
 ghost use mathlib.Core.Path.{_≡_};
 ghost use lib.ListN.{drop};
 ghost use Rattle.lexis_rules.specs.Words.{quotedText};
-ghost use Rattle.authserv_rules.specs.OwnList.{ownList};
-ghost use Rattle.authserv_rules.specs.Identifier.{identifier};
-ghost use Rattle.authserv_rules.specs.Listed.{ownIf, ownOf};
-ghost use Rattle.authserv_rules.specs.Spelled.{linesOf, amongSpelled, ownOfSpelled};
-ghost use Rattle.authserv_rules.specs.Ends.{cutAt};
+ghost use Rattle.identifier_rules.specs.OwnList.{ownList};
+ghost use Rattle.identifier_rules.specs.Identifier.{identifier};
+ghost use Rattle.identifier_rules.specs.Listed.{ownIf, ownOf};
+ghost use Rattle.identifier_rules.specs.Spelled.{linesOf, amongSpelled, ownOfSpelled};
+ghost use Rattle.identifier_rules.specs.Ends.{cutAt};
 
 // The most bytes of a text with such a spelling (`spelling-least` in punycode_laws/proofs/Lengths.antt).
 const UNSPELLED: usize = 11 * Spelling::LONGEST + 10;
@@ -29,20 +29,20 @@ fn is_decoded_line(own: &[u8], ends: &[usize], text: &[u8]) -> bool
     if n > Spelling::LONGEST {
         return false;
     }
-    list_lines::is_line(own, ends, &spelled[..n])
+    ownlist_lines::is_line(own, ends, &spelled[..n])
 }
 
 // Whether a text is spelled as a line. One without two hyphens in a row is its own spelling.
 fn is_spelled_line(own: &[u8], ends: &[usize], text: &[u8]) -> bool
     ensures { λ r. ⌜ r ≡ amongSpelled (cutAt (now (own .entry)) 0 (now (ends .entry))) (now (text .entry)) ⌝ }
 {
-    if hyphens::has_double_hyphen(text) {
+    if punycode_hyphens::has_double_hyphen(text) {
         return is_decoded_line(own, ends, text);
     }
     if text.len() > Spelling::LONGEST {
         return false;
     }
-    list_lines::is_line(own, ends, text)
+    ownlist_lines::is_line(own, ends, text)
 }
 
 // Whether the text of the quoted string that starts at a place is spelled as a line, where it is longer than an entry.
@@ -50,7 +50,7 @@ fn is_long_quoted_line(own: &[u8], ends: &[usize], body: &[u8], at: usize) -> bo
     ensures { λ r. ⌜ r ≡ amongSpelled (cutAt (now (own .entry)) 0 (now (ends .entry))) (quotedText (drop at (now (body .entry)))) ⌝ }
 {
     let mut text = [0u8; UNSPELLED];
-    let n = quoted_texts::put_quoted(body, at, &mut text, 0);
+    let n = text_quoted::put_quoted(body, at, &mut text, 0);
     if n > UNSPELLED {
         return false;
     }
@@ -62,7 +62,7 @@ fn is_quoted_line(own: &[u8], ends: &[usize], body: &[u8], at: usize) -> bool
     ensures { λ r. ⌜ r ≡ amongSpelled (cutAt (now (own .entry)) 0 (now (ends .entry))) (quotedText (drop at (now (body .entry)))) ⌝ }
 {
     let mut text = [0u8; Entries::LONGEST];
-    let n = quoted_texts::put_quoted(body, at, &mut text, 0);
+    let n = text_quoted::put_quoted(body, at, &mut text, 0);
     if n > Entries::LONGEST {
         return is_long_quoted_line(own, ends, body, at);
     }
@@ -79,7 +79,7 @@ fn own_if(listed: bool) -> Own
 pub fn whose_among(own: &[u8], ends: &[usize], body: &[u8]) -> Own
     ensures { λ r. ⌜ r ≡ ownOfSpelled (cutAt (now (own .entry)) 0 (now (ends .entry))) (identifier (now (body .entry))) ⌝ }
 {
-    let Identifier::Readable { start, end, quoted } = authserv::identify(body) else {
+    let Identifier::Readable { start, end, quoted } = identifier::identify(body) else {
         return Own::Unreadable;
     };
     if quoted {
@@ -95,7 +95,7 @@ pub fn whose_spelled(own: &[u8], body: &[u8]) -> Own
     let mut at: usize = 0;
     loop {
         let mut ends = [0usize; Entries::ENTRIES];
-        let n = line_ends::line_ends(&own[at..], &mut ends);
+        let n = ownlist_lines::ends::line_ends(&own[at..], &mut ends);
         if n <= Entries::ENTRIES {
             return whose_among(&own[at..], &ends[..n], body);
         }
@@ -117,7 +117,7 @@ pub fn whose_spelled(own: &[u8], body: &[u8]) -> Own
 pub fn whose(list: &[u8], body: &[u8]) -> Own
     ensures { λ r. ⌜ r ≡ ownOf (ownList (now (list .entry)) .items) (identifier (now (body .entry))) ⌝ }
 {
-    let mut own = spelled_room::spelled();
-    let n = spelled_lists::spell_list(list, &mut own);
+    let mut own = ownlist_spelled::room::spelled();
+    let n = ownlist_spelled::spell_list(list, &mut own);
     whose_spelled(&own[..n], body)
 }

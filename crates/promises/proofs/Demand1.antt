@@ -8,27 +8,27 @@ use mathlib.Core.Logic.{_⊎_}
 use mathlib.Core.List.{List, [], _∷_, _++_}
 use lib.ListN.{length, drop}
 use lib.Seq.{drop-append-seam}
-use Rattle.reading.specs.Texts.{oneOf}
+use Rattle.base_readers.specs.Texts.{oneOf}
 use Rattle.lexis_rules.specs.Limits.{byteLimit}
 use Rattle.block_rules.specs.Fields.{fieldLimit, fields, bytesOf}
-use Rattle.authserv_rules.specs.OwnList.{ownList}
+use Rattle.identifier_rules.specs.OwnList.{ownList}
 use Rattle.strip_rules.specs.Told as strip-told
 use Rattle.strip_laws.proofs.Ways as strip-ways
-use Rattle.body.specs.Body.{Head, newer, reading}
-use Rattle.body.specs.Report.{idLine, versionLine}
-use Rattle.body.specs.Told.{numberOf, textOf, hasReport}
-use Rattle.body_laws.proofs.Headlines as report-laws
-use Rattle.body_laws.proofs.Ways as report-ways
+use Rattle.report_rules.specs.Body.{Head, newer, reading}
+use Rattle.report_rules.specs.Report.{idLine, versionLine}
+use Rattle.report_rules.specs.Told.{numberOf, textOf, hasReport}
+use Rattle.report_laws.proofs.Headlines as report-laws
+use Rattle.report_laws.proofs.Ways as report-ways
 use Rattle.arc_rules.specs.Told.{BadVerdicts}
 use Rattle.arc_laws.proofs.Ways as judge-ways
 use Rattle.arc_laws.proofs.Headlines as judge-laws
-use Rattle.fields_rules.specs.declared.Step.the-variants.{Last}
-use Rattle.fields_rules.specs.Steps.{given, lastOf}
-use Rattle.fields_rules.specs.Whole.{stepsFrom, inOrder, First}
-use Rattle.fields_rules.proofs.Headlines as step-laws
-use Rattle.compose.specs.Compose.{compose}
-use Rattle.compose.specs.Promise.{HasBody, bodyFor, TooLong, TooShort, Fits, Placed}
-use Rattle.compose_laws.proofs.Headlines as write-laws
+use Rattle.block_walk_rules.specs.declared.Step.the-variants.{Last}
+use Rattle.block_walk_rules.specs.Steps.{given, lastOf}
+use Rattle.block_walk_rules.specs.Whole.{stepsFrom, inOrder, First}
+use Rattle.block_walk_rules.proofs.Headlines as step-laws
+use Rattle.write_rules.specs.Compose.{compose}
+use Rattle.write_rules.specs.Promise.{HasBody, bodyFor, TooLong, TooShort, Fits, Placed}
+use Rattle.write_laws.proofs.Headlines as write-laws
 use Rattle.promises.specs.Exactly.{Exactly}
 use Rattle.promises.specs.Calls.{strips, reports, writes, judges, steps}
 

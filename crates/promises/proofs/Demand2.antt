@@ -7,18 +7,18 @@ use mathlib.Core.Bool.{true, false, cond}
 use mathlib.Core.List.{List, [], _∷_, _++_, map, List·Memᴰ}
 use lib.Dec.{lit≤}
 use lib.ListN.{length, drop}
-use Rattle.reading.specs.Texts.{bytes}
-use Rattle.reading.proofs.Cases.{copies}
+use Rattle.base_readers.specs.Texts.{bytes}
+use Rattle.base_readers.proofs.Cases.{copies}
 use Rattle.lexis_rules.specs.Limits.{byteLimit}
 use Rattle.block_rules.specs.Fields.{Field, fields, bytesOf}
-use Rattle.authserv_rules.specs.OwnList.{ownList}
-use Rattle.body.specs.Body.{results, reading}
-use Rattle.body.specs.Report.{idLine, lines, ignoredOf}
-use Rattle.resinfo_rules.specs.Results.{Result}
-use Rattle.body.specs.Told.{numberOf, textOf, countOf}
-use Rattle.body.proofs.Opened as body-opened
-use Rattle.body_laws.proofs.Ways as report-ways
-use Rattle.body_laws.proofs.Rooms as rooms
+use Rattle.identifier_rules.specs.OwnList.{ownList}
+use Rattle.report_rules.specs.Body.{results, reading}
+use Rattle.report_rules.specs.Report.{idLine, lines, ignoredOf}
+use Rattle.result_rules.specs.Results.{Result}
+use Rattle.report_rules.specs.Told.{numberOf, textOf, countOf}
+use Rattle.report_rules.proofs.Opened as body-opened
+use Rattle.report_laws.proofs.Ways as report-ways
+use Rattle.report_laws.proofs.Rooms as rooms
 use Rattle.strip_rules.specs.Strip.{strip}
 use Rattle.strip_rules.specs.ByFields.{Kept}
 use Rattle.strip_rules.specs.Told.{Known, keptFields, removedFields}

@@ -5,15 +5,15 @@ use mathlib.Core.Path.{_≡_, refl}
 use mathlib.Core.List.{List, [], _∷_, List·Memᴰ}
 use lib.Dec.{lit≤}
 use lib.ListN.{length, take}
-use Rattle.reading.specs.Texts.{bytes}
+use Rattle.base_readers.specs.Texts.{bytes}
 use Rattle.lexis_rules.specs.Numbers.{numberOf, one}
-use Rattle.resinfo_rules.specs.Results.{Result}
-use Rattle.body.specs.Body.{reading}
-use Rattle.body.specs.Newer.{Names, WithinLimit, WellFormed, resultsOf, IsResult}
-use Rattle.body.specs.Beside.{insertionPlaces, insertAt}
-use Rattle.body.proofs.Opened as body-opened
-use Rattle.body_laws.proofs.Demand3 as demand3
-use Rattle.body_laws.proofs.Ignored.{insertAt-length}
+use Rattle.result_rules.specs.Results.{Result}
+use Rattle.report_rules.specs.Body.{reading}
+use Rattle.report_rules.specs.Newer.{Names, WithinLimit, WellFormed, resultsOf, IsResult}
+use Rattle.report_rules.specs.Beside.{insertionPlaces, insertAt}
+use Rattle.report_rules.proofs.Opened as body-opened
+use Rattle.report_laws.proofs.Demand3 as demand3
+use Rattle.report_laws.proofs.Ignored.{insertAt-length}
 use Rattle.promises.specs.Calls.{Reporting, reports}
 
 -- ==== If two fields name the same header version, other than 1, and have the same bytes up to the end of that number, they get the same

@@ -5,12 +5,12 @@ use mathlib.Core.List.{List, _++_}
 use lib.Dec.{lit≤}
 use lib.ListN.{length, take, drop}
 use lib.Seq.{take-append-seam}
-use Rattle.reading.specs.Texts.{bytes}
-use Rattle.body.specs.Report.{report}
-use Rattle.compose.specs.Compose.{compose}
-use Rattle.compose.specs.Promise.{Reports, HasBody, Placed, bodyFor}
-use Rattle.compose.proofs.Opened as compose
-use Rattle.compose_laws.proofs.Headlines as written
+use Rattle.base_readers.specs.Texts.{bytes}
+use Rattle.report_rules.specs.Report.{report}
+use Rattle.write_rules.specs.Compose.{compose}
+use Rattle.write_rules.specs.Promise.{Reports, HasBody, Placed, bodyFor}
+use Rattle.write_rules.proofs.Opened as compose
+use Rattle.write_laws.proofs.Headlines as written
 use Rattle.promises.specs.Calls.{reports, writes}
 
 -- ==== For every list of lines it accepts, reading the written body gives the same lines back with an ignored count of zero

@@ -7,14 +7,14 @@ use mathlib.Core.Bool.{true, false, _&&_}
 use mathlib.Core.List.{List, _∷_, _++_}
 use mathlib.Core.Option.{some}
 use lib.ListN.{drop}
-use Rattle.reading.specs.Texts.{bytes, oneOf}
+use Rattle.base_readers.specs.Texts.{bytes, oneOf}
 use Rattle.lexis_rules.specs.Bytes.{alike}
 use Rattle.punycode_rules.specs.Punycode.{basic}
 use Rattle.punycode_rules.specs.Unicode.{utf8s}
 use Rattle.punycode_rules.specs.Labels.{decoded, prefixed, labels, anyPrefixed}
-use Rattle.authserv_rules.specs.Identifier.{sameIdentifier}
-use Rattle.authserv_laws.proofs.Headlines as identifiers
-use Rattle.authserv_rules.proofs.Examples.{opened}
+use Rattle.identifier_rules.specs.Identifier.{sameIdentifier}
+use Rattle.identifier_laws.proofs.Headlines as identifiers
+use Rattle.identifier_rules.proofs.Examples.{opened}
 
 -- ==== it is an equality
 

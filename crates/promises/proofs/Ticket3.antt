@@ -7,15 +7,15 @@ use mathlib.Core.Path.{_≡_, refl, ap}
 use mathlib.Core.List.{List, _∷_}
 use lib.Dec.{lit≤}
 use lib.ListN.{length, getD, take}
-use Rattle.reading.specs.Texts.{bytes, same}
+use Rattle.base_readers.specs.Texts.{bytes, same}
 use Rattle.lexis_rules.specs.declared.VersionNumber.the-variants.{Exact, Large}
 use Rattle.lexis_rules.specs.Pieces.{decimal}
 use Rattle.lexis_rules.specs.Words.{counted}
 use Rattle.lexis_rules.specs.Numbers.{largest, numberOf, isOne}
 use Rattle.lexis_laws.proofs.VersionNumbers as numbers
-use Rattle.body.specs.Newer.{Names, WithinLimit}
-use Rattle.body.proofs.Opened as body-opened
-use Rattle.body_laws.proofs.Demand3 as demand3
+use Rattle.report_rules.specs.Newer.{Names, WithinLimit}
+use Rattle.report_rules.proofs.Opened as body-opened
+use Rattle.report_laws.proofs.Demand3 as demand3
 use Rattle.promises.specs.Calls.{reports}
 
 -- ==== It is to answer the number up to 999,999 and "large" above that

@@ -6,17 +6,17 @@ use lib.ListN.{length}
 use Rattle.strip_rules.specs.declared.Stripped.{Stripped}
 use Rattle.strip_rules.specs.Strip.{strip}
 use Rattle.strip_rules.specs.Answers as strip-answers
-use Rattle.body.specs.declared.Reported.{Reported}
-use Rattle.body.specs.Report.{report}
-use Rattle.body.specs.Answers as report-answers
-use Rattle.compose.specs.declared.Written.{Written}
-use Rattle.compose.specs.Compose.{compose}
-use Rattle.compose.specs.Answers as write-answers
+use Rattle.report_rules.specs.declared.Reported.{Reported}
+use Rattle.report_rules.specs.Report.{report}
+use Rattle.report_rules.specs.Answers as report-answers
+use Rattle.write_rules.specs.declared.Written.{Written}
+use Rattle.write_rules.specs.Compose.{compose}
+use Rattle.write_rules.specs.Answers as write-answers
 use Rattle.arc_rules.specs.declared.Judged.{Judged}
 use Rattle.arc_rules.specs.Chain.{judge}
 use Rattle.arc_rules.specs.Answers as judge-answers
-use Rattle.fields_rules.specs.declared.Step.{Step}
-use Rattle.fields_rules.specs.Steps.{stepFrom}
+use Rattle.block_walk_rules.specs.declared.Step.{Step}
+use Rattle.block_walk_rules.specs.Steps.{stepFrom}
 
 -- `strip::strip(block, list, out)`
 pub record Stripping : Type 0 where
@@ -35,7 +35,7 @@ pub record Reporting : Type 0 where
 abbrev pub reports : List ℕ → List ℕ → Reporting
 reports body old = record { answer = report-answers.answerOf (report body (length old)); left = report-answers.leaves (report body (length old)) old }
 
--- `writing::write(lines, out)`
+-- `write::write(lines, out)`
 pub record Writing : Type 0 where
   pub answer : Written
   pub left : List ℕ
@@ -47,6 +47,6 @@ writes lines old = record { answer = write-answers.answerOf (compose lines (leng
 abbrev pub judges : List ℕ → List ℕ → Judged
 judges block verdicts = judge-answers.answerOf (judge block verdicts)
 
--- `fields::field_from(block, from)`, a step of the walking reader
+-- `block_walk::field_from(block, from)`, a step of the walking reader
 abbrev pub steps : List ℕ → ℕ → Step
 steps block place = stepFrom block place

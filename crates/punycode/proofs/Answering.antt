@@ -6,15 +6,15 @@ use mathlib.Core.List.{List}
 use mathlib.Core.Option.{none}
 use lib.ListN.{length, take}
 use borrow.Author.Tests.{le-leb, lt-leb}
-use Rattle.sequences.specs.Stored.{Put}
-use Rattle.sequences.proofs.Splices.{put-front}
+use Rattle.base_sequences.specs.Stored.{Put}
+use Rattle.base_sequences.proofs.Splices.{put-front}
 use Rattle.punycode_rules.specs.Unicode.{utf8s}
 use Rattle.punycode_rules.specs.Labels.{decoded, spelling, spellingLimit}
 use Rattle.punycode.specs.declared.Decoded.the-variants as answer
-use Rattle.code_points.specs.declared.Points.{Points}
-use Rattle.code_points.specs.declared.Points.the-variants.{Read, Failed, Long}
+use Rattle.punycode_decode.specs.declared.Points.{Points}
+use Rattle.punycode_decode.specs.declared.Points.the-variants.{Read, Failed, Long}
 use Rattle.punycode.specs.Answers.{decodeAnswer, decodeStored, spellAnswer, spellStored}
-use Rattle.code_points.specs.Answers.{Tells}
+use Rattle.punycode_decode.specs.Answers.{Tells}
 use Rattle.punycode.specs.Internal.{Spelt}
 
 -- ==== one label behind its prefix

@@ -9,13 +9,13 @@ use lib.Dec.{lit≤}
 use lib.ListN.{length, take}
 use lib.Seq.{sets, length-sets}
 use borrow.Author.Tests.{leb-false}
-use Rattle.sequences.specs.Stored.{Put}
-use Rattle.sequences.proofs.Splices.{put-front}
-use Rattle.reading.specs.Texts.{bytes}
-use Rattle.reading.proofs.Cases.{copies}
+use Rattle.base_sequences.specs.Stored.{Put}
+use Rattle.base_sequences.proofs.Splices.{put-front}
+use Rattle.base_readers.specs.Texts.{bytes}
+use Rattle.base_readers.proofs.Cases.{copies}
 use Rattle.punycode_rules.specs.Labels.{spelling, spellingLimit}
 use Rattle.punycode_rules.proofs.Opened.{opened}
-use Rattle.code_points.specs.Answers.{fits}
+use Rattle.punycode_decode.specs.Answers.{fits}
 use Rattle.punycode.specs.Answers.{spellAnswer, spellStored}
 
 module _ (t : List ℕ) where

@@ -9,16 +9,16 @@ use lib.Dec.{eqb, leb}
 use lib.ListN.{length, getD, set, take, drop, length-append, length-take, length-drop}
 use lib.Seq.{take-all}
 use borrow.Author.Tests.{leb-true, leb-false, eqb-true}
-use Rattle.sequences.specs.Stored.{Put}
-use Rattle.sequences.proofs.Splices.{Left, left-start, left-step, left-done, left-byte, put-wrote}
-use Rattle.reading.specs.Texts.{oneOf}
-use Rattle.reading.specs.Readers.{run}
-use Rattle.code_points.specs.declared.Points.{Points}
-use Rattle.code_points.specs.declared.Points.the-variants.{Read, Failed, Long}
+use Rattle.base_sequences.specs.Stored.{Put}
+use Rattle.base_sequences.proofs.Splices.{Left, left-start, left-step, left-done, left-byte, put-wrote}
+use Rattle.base_readers.specs.Texts.{oneOf}
+use Rattle.base_readers.specs.Readers.{run}
+use Rattle.punycode_decode.specs.declared.Points.{Points}
+use Rattle.punycode_decode.specs.declared.Points.the-variants.{Read, Failed, Long}
 use Rattle.punycode_rules.specs.Unicode.{scalars, utf8s}
 use Rattle.punycode_rules.specs.Labels.{decoded, prefixed, spelled, spelling, spellingLimit, inLabel}
 use Rattle.punycode.specs.Internal.{Spells, Spelt}
-use Rattle.code_points.specs.Answers.{Tells}
+use Rattle.punycode_decode.specs.Answers.{Tells}
 use Rattle.punycode_laws.proofs.Encoding.{utf8s-bounds}
 use Rattle.punycode_laws.proofs.Spelling.{spelled-plain, spelled-failed, spelled-some, scalars-of, end-low, here-last, here-more}
 

@@ -8,8 +8,8 @@ use mathlib.Core.List.{List, [], _∷_}
 use lib.ListN.{length, getD, set, take, drop}
 use lib.Seq.{drop-cons}
 use borrow.Author.Tests.{lt-ltb, le-ltb}
-use Rattle.sequences.specs.Stored.{Put}
-use Rattle.sequences.proofs.Splices.{Left, left-start, left-step, left-done, put-wrote, wrote-put}
+use Rattle.base_sequences.specs.Stored.{Put}
+use Rattle.base_sequences.proofs.Splices.{Left, left-start, left-step, left-done, put-wrote, wrote-put}
 use Rattle.punycode_rules.specs.Unicode.{scalars, utf8, utf8s}
 use Rattle.punycode_laws.proofs.Encoding.{utf8-bounds, scalars-first}
 

@@ -8,7 +8,7 @@ use lib.ListN.{length}
 use lib.Seq.{sets}
 use Rattle.punycode_rules.specs.Unicode.{utf8s}
 use Rattle.punycode_rules.specs.Labels.{decoded, spelling, spellingLimit}
-use Rattle.code_points.specs.Answers.{fits}
+use Rattle.punycode_decode.specs.Answers.{fits}
 use Rattle.punycode.specs.declared.Decoded.{Decoded}
 use Rattle.punycode.specs.declared.Decoded.the-variants.{Text, Failed, Long}
 

@@ -1,6 +1,6 @@
 -- What the private functions promise each other. Assumes nothing: these are definitions.
 use Prim.Native.Nat.{ℕ, _+_, _*_, _≤_, _<_}
-use Rattle.sequences.specs.Stored.{Put}
+use Rattle.base_sequences.specs.Stored.{Put}
 use mathlib.Core.List.{List}
 use lib.ListN.{length}
 use Rattle.punycode_rules.specs.Labels.{spellingLimit}

@@ -1,13 +1,13 @@
 // Labels: where one ends, whether it starts with xn--, and labels written as they are compared.
 use super::Spelling;
 use super::utf8;
-use code_points::Points;
+use punycode_decode::Points;
 ghost use mathlib.Core.Path.{_≡_};
 ghost use mathlib.Core.List.{[], _∷_};
 ghost use Prim.Native.Nat.{_+_, _≤_};
 ghost use lib.ListN.{drop, getD};
-ghost use Rattle.reading.specs.Texts.{oneOf};
-ghost use Rattle.reading.specs.Readers.{run};
+ghost use Rattle.base_readers.specs.Texts.{oneOf};
+ghost use Rattle.base_readers.specs.Readers.{run};
 ghost use Rattle.punycode_rules.specs.Labels.{prefixed, spelled, inLabel, spelling, spellingLimit};
 ghost use Rattle.punycode.specs.Internal.{Spells, Spelt};
 
@@ -15,10 +15,10 @@ ghost use Rattle.punycode.specs.Internal.{Spells, Spelt};
 fn is_either(s: &[u8], k: usize, x: u8, y: u8) -> bool
     ensures { λ r. ⌜ r ≡ oneOf (x ∷ y ∷ []) (getD (now (s .entry)) k 0) ⌝ }
 {
-    if reading::is_at(s, 0, k, x) {
+    if base_readers::is_at(s, 0, k, x) {
         return true;
     }
-    reading::is_at(s, 0, k, y)
+    base_readers::is_at(s, 0, k, y)
 }
 
 // Whether a label starts with xn--, in either case.
@@ -27,8 +27,8 @@ fn is_prefixed(l: &[u8]) -> bool
 {
     if is_either(l, 0, b'x', b'X') {
         if is_either(l, 1, b'n', b'N') {
-            if reading::is_at(l, 0, 2, b'-') {
-                return reading::is_at(l, 0, 3, b'-');
+            if base_readers::is_at(l, 0, 2, b'-') {
+                return base_readers::is_at(l, 0, 3, b'-');
             }
         }
     }
@@ -56,7 +56,7 @@ fn put_plain(l: &[u8], out: &mut [u8], to: usize) -> usize
     if l.len() > Spelling::LONGEST {
         return Spelling::OVER;
     }
-    texts::put_text(l, out, to)
+    text_write::put_text(l, out, to)
 }
 
 // Writes a label as it is compared.
@@ -66,7 +66,7 @@ fn put_label(l: &[u8], out: &mut [u8], to: usize) -> usize
 {
     if is_prefixed(l) {
         let mut points = [0u32; Spelling::LONGEST];
-        let d = code_points::read_label(&l[4..], &mut points);
+        let d = punycode_decode::read_label(&l[4..], &mut points);
         match d {
             Points::Read(n) => {
                 return utf8::put_points(&points, n, out, to);

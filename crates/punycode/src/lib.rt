@@ -5,7 +5,7 @@
 // which equals that of no list entry, is not written, and the answer is 1,021.
 // `decode` does the same for what stands behind the prefix of one label. It answers the length of the code points in UTF-8, that it doesn't
 // decode, or that it is longer than 1,020 bytes.
-use code_points::Points;
+use punycode_decode::Points;
 ghost use mathlib.Core.Path.{_≡_};
 ghost use Prim.Native.Nat.{_+_};
 ghost use lib.ListN.{length};
@@ -40,7 +40,7 @@ pub fn decode(label: &[u8], out: &mut [u8]) -> Decoded
         return Decoded::Long;
     }
     let mut points = [0u32; Spelling::LONGEST];
-    let d = code_points::read_label(label, &mut points);
+    let d = punycode_decode::read_label(label, &mut points);
     match d {
         Points::Read(count) => {
             let length = utf8::put_points(&points, count, out, 0);
@@ -60,5 +60,5 @@ pub fn spell(t: &[u8], out: &mut [u8]) -> usize
     if n > Spelling::LONGEST {
         return Spelling::OVER;
     }
-    texts::put_text(&text[..n], out, 0)
+    text_write::put_text(&text[..n], out, 0)
 }

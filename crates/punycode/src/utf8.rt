@@ -3,7 +3,7 @@ ghost use mathlib.Core.Path.{_≡_};
 ghost use mathlib.Core.Bool.{true};
 ghost use Prim.Native.Nat.{_+_, _*_, _<_, _≤_};
 ghost use lib.ListN.{length, take, set};
-ghost use Rattle.sequences.specs.Stored.{Put};
+ghost use Rattle.base_sequences.specs.Stored.{Put};
 ghost use Rattle.punycode_rules.specs.Unicode.{scalars, utf8, utf8s};
 ghost use Rattle.punycode_rules.specs.Labels.{spellingLimit};
 

@@ -10,9 +10,9 @@ use lib.Dec.{eqb, ltb, lit<}
 use lib.ListN.{length, getD, take, drop}
 use lib.Seq.{drop-cons}
 use borrow.Author.Tests.{le-leb, lt-leb, le-ltb, ne-eqb, eqb-true, ltb-false}
-use Rattle.sequences.proofs.Booleans.{no-true, both, and-left, and-right}
-use Rattle.reading.specs.Texts.{within, oneOf}
-use Rattle.reading.proofs.Texts.{all, one-in}
+use Rattle.base_sequences.proofs.Booleans.{no-true, both, and-left, and-right}
+use Rattle.base_readers.specs.Texts.{within, oneOf}
+use Rattle.base_readers.proofs.Texts.{all, one-in}
 use Rattle.punycode_rules.specs.Punycode.{State, start, last, more, digitOf, numbers, beforeLast, basic, consumed}
 use Rattle.punycode_rules.specs.Unicode.{utf8, utf8s}
 use Rattle.punycode_rules.specs.Labels.{kept, decoded, prefixed, spelled, spelling}

@@ -9,10 +9,10 @@ use mathlib.Core.Option.{Option, none, some}
 use lib.Dec.{eqb, ltb}
 use lib.ListN.{length, take, drop}
 use borrow.Author.Tests.{eq-eqb, ne-eqb, eqb-true, eqb-false, le-ltb, ltb-false}
-use Rattle.sequences.proofs.Booleans.{no-true}
-use Rattle.reading.specs.Texts.{oneOf}
-use Rattle.reading.specs.Readers.{run}
-use Rattle.reading.proofs.Readers.{run-more}
+use Rattle.base_sequences.proofs.Booleans.{no-true}
+use Rattle.base_readers.specs.Texts.{oneOf}
+use Rattle.base_readers.specs.Readers.{run}
+use Rattle.base_readers.proofs.Readers.{run-more}
 use Rattle.punycode_rules.specs.Punycode.{State, start, last, more, digitOf, numbers, beforeLast, basic, consumed}
 use Rattle.punycode_rules.specs.Unicode.{utf8, utf8s}
 use Rattle.punycode_rules.specs.Labels.{decoded, prefixed, spelled, inLabel, onFirst, labels, joined, spelling}

@@ -9,7 +9,7 @@ use mathlib.Core.Option.{none}
 use lib.Dec.{eqb, ltb}
 use lib.ListN.{length, take, drop}
 use borrow.Author.Tests.{ltb-true}
-use Rattle.sequences.proofs.Booleans.{and-left, and-right}
+use Rattle.base_sequences.proofs.Booleans.{and-left, and-right}
 use Rattle.punycode_rules.specs.Punycode.{start, numbers, beforeLast, basic, consumed, punycode}
 use Rattle.punycode_rules.specs.Unicode.{scalar, scalars}
 use Rattle.punycode_rules.specs.Labels.{kept, decoded}

@@ -8,7 +8,7 @@ use mathlib.Core.Option.{Option, none, some}
 use lib.Dec.{ltb, eqb}
 use lib.ListN.{length, getD, take, drop, length-map, List·getD-map}
 use borrow.Author.Tests.{lt-ltb, le-ltb, le-leb, lt-leb, eq-eqb, ne-eqb, eqb-true, ltb-true, ltb-false}
-use Rattle.reading.specs.Texts.{within, oneOf}
+use Rattle.base_readers.specs.Texts.{within, oneOf}
 use Rattle.lexis_rules.specs.Bytes.{lower}
 use Rattle.punycode_rules.specs.Punycode.{State, start, insert, last, more, digitOf, threshold, numbers, beforeLast, basic, consumed, punycode}
 use Rattle.punycode_rules.specs.Unicode.{scalar, scalars, utf8, utf8s}
@@ -30,7 +30,7 @@ cased x = go (within 65 90 x) refl
   where
     go : (t : Bool) → within 65 90 x ≡ t → Cased x
     go true e = capital (within-inv 65 90 x e .0) (within-inv 65 90 x e .1) (rw e)
-    go false e = other (λ a b. Rattle.sequences.proofs.Booleans.both (within 65 90 x) e (unfold within in rw (le-leb 65 x a, le-leb x 90 b))) (rw e)
+    go false e = other (λ a b. Rattle.base_sequences.proofs.Booleans.both (within 65 90 x) e (unfold within in rw (le-leb 65 x a, le-leb x 90 b))) (rw e)
 
 -- a mark that is no letter
 eqb-case : (c x : ℕ) → c < 65 → eqb (lower x) c ≡ eqb x c

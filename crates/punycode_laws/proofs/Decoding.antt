@@ -9,7 +9,7 @@ use mathlib.Core.Option.{Option, none, some}
 use lib.Dec.{ltb, eqb}
 use lib.ListN.{length, take, drop, take-append-drop, length-append}
 use borrow.Author.Tests.{ltb-true, ltb-false, lt-ltb, le-ltb, eq-eqb, ne-eqb, eqb-true}
-use Rattle.sequences.proofs.Booleans.{and-none}
+use Rattle.base_sequences.proofs.Booleans.{and-none}
 use Rattle.punycode_rules.specs.Punycode.{State, insert, last, more, digitOf, threshold, numbers}
 use Rattle.punycode_rules.specs.Unicode.{scalar, scalars}
 use Rattle.punycode_rules.specs.Labels.{kept}

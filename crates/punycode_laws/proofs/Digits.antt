@@ -5,8 +5,8 @@ use mathlib.Core.Path.{_≡_, refl, sym, _∙_}
 use mathlib.Core.Bool.{Bool, true, false}
 use lib.Dec.{leb}
 use borrow.Author.Tests.{leb-true, leb-false, le-leb, lt-leb, lt-ltb, le-ltb}
-use Rattle.sequences.proofs.Booleans.{and-left, and-right}
-use Rattle.reading.specs.Texts.{within}
+use Rattle.base_sequences.proofs.Booleans.{and-left, and-right}
+use Rattle.base_readers.specs.Texts.{within}
 use Rattle.punycode_rules.specs.Punycode.{digitOf, threshold}
 use Rattle.punycode_rules.specs.Unicode.{scalar}
 
@@ -97,5 +97,5 @@ pub scalar-below : (x : ℕ) → scalar x ≡ true → x < 1114112
 scalar-below x h = go (leb 1114112 x) refl
   where
     go : (t : Bool) → leb 1114112 x ≡ t → x < 1114112
-    go true e = absurd (Rattle.sequences.proofs.Booleans.no-true (sym (scalar-above x (leb-true _ _ e)) ∙ h))
+    go true e = absurd (Rattle.base_sequences.proofs.Booleans.no-true (sym (scalar-above x (leb-true _ _ e)) ∙ h))
     go false e = leb-false _ _ e

@@ -7,7 +7,7 @@ use mathlib.Core.List.{List, [], _∷_, _++_}
 use lib.Dec.{ltb}
 use lib.ListN.{length, length-append}
 use borrow.Author.Tests.{le-ltb, ltb-false}
-use Rattle.sequences.proofs.Booleans.{and-left, and-right}
+use Rattle.base_sequences.proofs.Booleans.{and-left, and-right}
 use Rattle.punycode_rules.specs.Unicode.{scalar, scalars, utf8, utf8s}
 use Rattle.punycode_laws.proofs.Digits.{scalar-below}
 

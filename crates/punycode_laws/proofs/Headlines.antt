@@ -7,7 +7,7 @@ use mathlib.Core.List.{List, _∷_, map}
 use mathlib.Core.Option.{some}
 use lib.Dec.{lit<, lit≤}
 use lib.ListN.{length, drop}
-use Rattle.reading.specs.Texts.{bytes, oneOf}
+use Rattle.base_readers.specs.Texts.{bytes, oneOf}
 use Rattle.lexis_rules.specs.Bytes.{lower}
 use Rattle.punycode_rules.specs.Punycode.{basic}
 use Rattle.punycode_rules.specs.Unicode.{utf8s}

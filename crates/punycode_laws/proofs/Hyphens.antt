@@ -5,8 +5,8 @@ use mathlib.Core.Bool.{Bool, true, false, _&&_, _||_}
 use mathlib.Core.List.{List, [], _∷_, map}
 use lib.Dec.{eqb}
 use lib.ListN.{getD, take, drop}
-use Rattle.sequences.proofs.Booleans.{and-none}
-use Rattle.reading.specs.Texts.{oneOf}
+use Rattle.base_sequences.proofs.Booleans.{and-none}
+use Rattle.base_readers.specs.Texts.{oneOf}
 use Rattle.punycode_rules.specs.Labels.{prefixed, spelled, onFirst, labels, joined, spelling, anyPrefixed, doubleHyphen}
 use Rattle.punycode_laws.proofs.Lists.{or-false-left, or-false-right, or-both}
 use Rattle.punycode_laws.proofs.Spelling.{spelled-plain, joined-labels}

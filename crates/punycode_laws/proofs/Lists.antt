@@ -8,8 +8,8 @@ use native.Mathlib.Omega.{arith}
 use lib.Dec.{eqb, ltb}
 use lib.ListN.{take, drop, take-append-drop}
 use borrow.Author.Tests.{ne-eqb}
-use Rattle.sequences.proofs.Booleans.{no-true}
-use Rattle.reading.specs.Texts.{oneOf}
+use Rattle.base_sequences.proofs.Booleans.{no-true}
+use Rattle.base_readers.specs.Texts.{oneOf}
 use Rattle.punycode_rules.specs.Punycode.{insert, basic}
 
 pub absurd-some : {P : Type 0} (u : List ℕ) → none ≡ some u → P

@@ -9,12 +9,12 @@ use lib.Dec.{eqb, leb}
 use lib.ListN.{length, getD, take, drop, length-drop}
 use lib.Seq.{take-all, drop-drop}
 use borrow.Author.Tests.{ne-eqb, leb-true, leb-false, eqb-true}
-use Rattle.sequences.proofs.Booleans.{no-true}
-use Rattle.reading.specs.Texts.{oneOf}
-use Rattle.reading.specs.Readers.{run}
-use Rattle.reading.specs.Places.{Reaches}
-use Rattle.reading.proofs.Readers.{run-more, run-fits}
-use Rattle.reading.proofs.Loops.{run-on, run-off}
+use Rattle.base_sequences.proofs.Booleans.{no-true}
+use Rattle.base_readers.specs.Texts.{oneOf}
+use Rattle.base_readers.specs.Readers.{run}
+use Rattle.base_readers.specs.Places.{Reaches}
+use Rattle.base_readers.proofs.Readers.{run-more, run-fits}
+use Rattle.base_readers.proofs.Loops.{run-on, run-off}
 use Rattle.punycode_rules.specs.Unicode.{scalars, utf8s}
 use Rattle.punycode_rules.specs.Labels.{kept, decoded, prefixed, spelled, inLabel, onFirst, labels, joined, spelling}
 

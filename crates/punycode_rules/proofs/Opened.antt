@@ -1,5 +1,5 @@
 -- The definitions opened all at once, for what is computed. Assumes nothing.
-use Rattle.reading.specs.Texts.{within, oneOf}
+use Rattle.base_readers.specs.Texts.{within, oneOf}
 use Rattle.lexis_rules.specs.Bytes.{lower}
 use Rattle.punycode_rules.specs.Punycode.{digitOf, scaled, adapt, threshold, numbers, beforeLast, basic, punycode}
 use Rattle.punycode_rules.specs.Unicode.{scalar, scalars, utf8, utf8s}

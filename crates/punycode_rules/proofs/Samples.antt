@@ -4,8 +4,8 @@ use mathlib.Core.Path.{_≡_, refl}
 use mathlib.Core.Bool.{true, false}
 use mathlib.Core.List.{[], _∷_, _++_}
 use mathlib.Core.Option.{none, some}
-use Rattle.reading.specs.Texts.{bytes}
-use Rattle.reading.proofs.Cases.{case, Says}
+use Rattle.base_readers.specs.Texts.{bytes}
+use Rattle.base_readers.proofs.Cases.{case, Says}
 use Rattle.punycode_rules.specs.Punycode.{adapt, punycode}
 use Rattle.punycode_rules.specs.Labels.{labels, decoded, spelling, anyPrefixed, spellingLimit, doubleHyphen}
 use Rattle.punycode_rules.proofs.Opened.{opened}

@@ -7,7 +7,7 @@ use mathlib.Core.List.{List, [], _∷_, _++_, map}
 use mathlib.Core.Option.{Option, none, some}
 use lib.Dec.{eqb}
 use lib.ListN.{getD, drop}
-use Rattle.reading.specs.Texts.{bytes, oneOf}
+use Rattle.base_readers.specs.Texts.{bytes, oneOf}
 use Rattle.punycode_rules.specs.Punycode.{punycode}
 use Rattle.punycode_rules.specs.Unicode.{scalars, utf8s}
 

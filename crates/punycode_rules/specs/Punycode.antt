@@ -7,7 +7,7 @@ use mathlib.Core.List.{List, [], _∷_, _++_}
 use mathlib.Core.Option.{Option, none, some}
 use lib.Dec.{leb, ltb, eqb}
 use lib.ListN.{length, take, drop}
-use Rattle.reading.specs.Texts.{within}
+use Rattle.base_readers.specs.Texts.{within}
 
 -- section 5: the parameters
 abbrev pub base : ℕ

@@ -10,23 +10,23 @@ use borrow.Author.Tests.{ltb-true, ltb-false, le-leb, lt-leb}
 use lib.Dec.{ltb, leb}
 use lib.ListN.{length, take, drop}
 use lib.Seq.{sets, length-take-le, take-all}
-use Rattle.sequences.proofs.Splices.{sets-front}
-use Rattle.reading.specs.Parsers.{nothing}
-use Rattle.reading.proofs.Sequencing.{bind-none}
+use Rattle.base_sequences.proofs.Splices.{sets-front}
+use Rattle.base_readers.specs.Parsers.{nothing}
+use Rattle.base_readers.proofs.Sequencing.{bind-none}
 use Rattle.lexis_rules.specs.Limits.{byteLimit}
-use Rattle.authserv.specs.declared.Identifier.the-variants.{Readable, Unreadable}
-use Rattle.authserv_rules.specs.Identifier.{identifier}
-use Rattle.authserv.specs.Answers.{identifierAt}
-use Rattle.authserv.proofs.Identifiers.{identifier-not}
-use Rattle.body.specs.Body.{Reading, unreadable, malformed, newer, noResult, results, head, reading}
-use Rattle.body.specs.Report.{refusal, fitted, answer, report}
-use Rattle.body_laws.proofs.Readings.{report-is}
-use Rattle.body.specs.declared.Reported.{Reported}
-use Rattle.body.specs.Answers.{answerOf, leaves}
-use Rattle.first_pass.specs.declared.Copy.{Copy}
-use Rattle.first_pass.specs.declared.Copy.the-variants.{Short, Again, Done}
-use Rattle.first_pass.specs.Copies.{copyOf, copyLeaves}
-use Rattle.first_pass.proofs.Copying.{when-short, when-again, when-done}
+use Rattle.identifier.specs.declared.Identifier.the-variants.{Readable, Unreadable}
+use Rattle.identifier_rules.specs.Identifier.{identifier}
+use Rattle.identifier.specs.Answers.{identifierAt}
+use Rattle.identifier.proofs.Identifiers.{identifier-not}
+use Rattle.report_rules.specs.Body.{Reading, unreadable, malformed, newer, noResult, results, head, reading}
+use Rattle.report_rules.specs.Report.{refusal, fitted, answer, report}
+use Rattle.report_laws.proofs.Readings.{report-is}
+use Rattle.report_rules.specs.declared.Reported.{Reported}
+use Rattle.report_rules.specs.Answers.{answerOf, leaves}
+use Rattle.text_first_pass.specs.declared.Copy.{Copy}
+use Rattle.text_first_pass.specs.declared.Copy.the-variants.{Short, Again, Done}
+use Rattle.text_first_pass.specs.Copies.{copyOf, copyLeaves}
+use Rattle.text_first_pass.proofs.Copying.{when-short, when-again, when-done}
 use Rattle.report.specs.Internal.{wholeText, refused, wholeAnswer, Said}
 use Rattle.report.proofs.Fronts.{fronted-text}
 

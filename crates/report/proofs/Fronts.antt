@@ -5,8 +5,8 @@ use mathlib.Core.Path.{_≡_, refl, sym, ap, _∙_}
 use mathlib.Core.List.{List, [], _∷_, _++_}
 use lib.ListN.{length, take, drop, set, length-append}
 use lib.Seq.{sets, set-set, set-comm, take-set-le, take-take, take-append-seam}
-use Rattle.sequences.specs.Stored.{Wrote}
-use Rattle.sequences.proofs.Splices.{sets-append, sets-front, wrote-long}
+use Rattle.base_sequences.specs.Stored.{Wrote}
+use Rattle.base_sequences.proofs.Splices.{sets-append, sets-front, wrote-long}
 use Rattle.report.specs.Internal.{Fronted}
 
 -- ==== text written over text

@@ -8,15 +8,15 @@ use mathlib.Core.List.{List, [], _∷_, _++_}
 use mathlib.Core.Option.{Option, none, some}
 use lib.ListN.{length, drop, length-append, length-drop}
 use lib.Seq.{length-take-le, drop-drop}
-use Rattle.sequences.specs.Stored.{cap, Wrote, Clipped}
-use Rattle.sequences.proofs.Clips.{clipped-wrote}
-use Rattle.sequences.proofs.Splices.{wrote-none, wrote-long, wrote-count}
-use Rattle.reading.specs.Texts.{bytes, follows}
-use Rattle.reading.specs.Parsers.{Got, nothing, got, optional}
-use Rattle.reading.specs.Places.{from}
-use Rattle.reading.proofs.Readers.{run-fits}
-use Rattle.reading.proofs.Places.{at-got}
-use Rattle.reading.proofs.Sequencing.{bind-got, give-is, optional-some, optional-none}
+use Rattle.base_sequences.specs.Stored.{cap, Wrote, Clipped}
+use Rattle.base_sequences.proofs.Clips.{clipped-wrote}
+use Rattle.base_sequences.proofs.Splices.{wrote-none, wrote-long, wrote-count}
+use Rattle.base_readers.specs.Texts.{bytes, follows}
+use Rattle.base_readers.specs.Parsers.{Got, nothing, got, optional}
+use Rattle.base_readers.specs.Places.{from}
+use Rattle.base_readers.proofs.Readers.{run-fits}
+use Rattle.base_readers.proofs.Places.{at-got}
+use Rattle.base_readers.proofs.Sequencing.{bind-got, give-is, optional-some, optional-none}
 use Rattle.lexis_rules.specs.Limits.{byteLimit}
 use Rattle.lexis_rules.specs.declared.Class.the-variants.{Delimiter, Digit}
 use Rattle.lexis_rules.specs.declared.VersionNumber.{VersionNumber}
@@ -25,22 +25,22 @@ use Rattle.lexis_rules.specs.Pieces.{space, digits, leading}
 use Rattle.lexis_rules.specs.Numbers.{numberOf, isOne}
 use Rattle.lexis_rules.specs.Words.{counted}
 use Rattle.lexis_laws.proofs.VersionNumbers.{leading-le, number-counted}
-use Rattle.authserv.specs.declared.Identifier.the-variants.{Readable}
-use Rattle.header_versions.specs.declared.Version.the-variants.{Absent, Stated}
-use Rattle.authserv_rules.specs.Identifier.{identifier}
-use Rattle.authserv_rules.specs.Version.{stated, headerVersion}
-use Rattle.authserv.specs.Answers.{identifierAt, textOf}
-use Rattle.header_versions.specs.Answers.{versionFrom, versionAt, versionGot}
-use Rattle.authserv.proofs.Identifiers.{identifier-found, identifier-inside}
-use Rattle.header_versions.proofs.Versions.{version-got}
-use Rattle.resinfo_rules.specs.Results.{Result}
-use Rattle.sequences.specs.Spans.{span}
-use Rattle.body.specs.Body.{Head, Reading, malformed, newer, noResult, results, head, resinfos, wordNone, payload, headed, reading}
-use Rattle.body.specs.Report.{line, idLine, versionLine, noneLine, lines}
-use Rattle.body_laws.proofs.Readings.{reading-is, first-one, headed-is}
-use Rattle.body.specs.declared.Reported.{Reported}
+use Rattle.identifier.specs.declared.Identifier.the-variants.{Readable}
+use Rattle.identifier.specs.declared.version.Version.the-variants.{Absent, Stated}
+use Rattle.identifier_rules.specs.Identifier.{identifier}
+use Rattle.identifier_rules.specs.Version.{stated, headerVersion}
+use Rattle.identifier.specs.Answers.{identifierAt, textOf}
+use Rattle.identifier.specs.VersionAnswers.{versionFrom, versionAt, versionGot}
+use Rattle.identifier.proofs.Identifiers.{identifier-found, identifier-inside}
+use Rattle.identifier.proofs.Versions.{version-got}
+use Rattle.result_rules.specs.Results.{Result}
+use Rattle.base_sequences.specs.Spans.{span}
+use Rattle.report_rules.specs.Body.{Head, Reading, malformed, newer, noResult, results, head, resinfos, wordNone, payload, headed, reading}
+use Rattle.report_rules.specs.Report.{line, idLine, versionLine, noneLine, lines}
+use Rattle.report_laws.proofs.Readings.{reading-is, first-one, headed-is}
+use Rattle.report_rules.specs.declared.Reported.{Reported}
 use Rattle.report.specs.Internal.{refused, Behind, newerAt, headedAt, Said}
-use Rattle.body_laws.proofs.Sizes.{id-size}
+use Rattle.report_laws.proofs.Sizes.{id-size}
 use Rattle.report.proofs.Fronts.{wrote-fronted, fronted-then}
 use Rattle.report.proofs.Payloads.{Room, behind-malformed}
 

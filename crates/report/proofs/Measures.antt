@@ -8,18 +8,18 @@ use mathlib.Core.List.{List}
 use borrow.Author.Tests.{ltb-true, ltb-false}
 use lib.Dec.{ltb}
 use lib.ListN.{length}
-use Rattle.sequences.specs.Stored.{cap}
+use Rattle.base_sequences.specs.Stored.{cap}
 use Rattle.lexis_rules.specs.Limits.{byteLimit}
-use Rattle.authserv.specs.declared.Identifier.the-variants.{Unreadable}
-use Rattle.authserv.specs.Answers.{identifierAt}
-use Rattle.authserv.proofs.Identifiers.{identifier-not}
-use Rattle.body.specs.Body.{Reading, unreadable, malformed, newer, noResult, results, reading}
-use Rattle.body.specs.Report.{report}
-use Rattle.body.specs.Answers.{answerOf}
-use Rattle.body.specs.Told.{told}
-use Rattle.body.specs.declared.Reported.{Reported}
-use Rattle.body_laws.proofs.Rooms.{text-size}
-use Rattle.body_laws.proofs.Ways.{when-one, when-told}
+use Rattle.identifier.specs.declared.Identifier.the-variants.{Unreadable}
+use Rattle.identifier.specs.Answers.{identifierAt}
+use Rattle.identifier.proofs.Identifiers.{identifier-not}
+use Rattle.report_rules.specs.Body.{Reading, unreadable, malformed, newer, noResult, results, reading}
+use Rattle.report_rules.specs.Report.{report}
+use Rattle.report_rules.specs.Answers.{answerOf}
+use Rattle.report_rules.specs.Told.{told}
+use Rattle.report_rules.specs.declared.Reported.{Reported}
+use Rattle.report_laws.proofs.Rooms.{text-size}
+use Rattle.report_laws.proofs.Ways.{when-one, when-told}
 use Rattle.report.specs.Internal.{refused, wholeAnswer, Said}
 use Rattle.report.proofs.Ends.{reading-not}
 

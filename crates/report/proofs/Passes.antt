@@ -7,21 +7,21 @@ use mathlib.Core.Path.{_≡_, refl, sym, ap, _∙_, subst}
 use mathlib.Core.Bool.{Bool, true, false}
 use mathlib.Core.List.{List, _∷_, _++_}
 use lib.ListN.{length, drop}
-use Rattle.reading.specs.Parsers.{Got, nothing, got}
-use Rattle.reading.specs.Places.{from, listAt, endAt}
-use Rattle.reading.proofs.Places.{took}
-use Rattle.reading.proofs.Repeats.{list-none, end-none, further, list-more, end-more}
+use Rattle.base_readers.specs.Parsers.{Got, nothing, got}
+use Rattle.base_readers.specs.Places.{from, listAt, endAt}
+use Rattle.base_readers.proofs.Places.{took}
+use Rattle.base_readers.proofs.Repeats.{list-none, end-none, further, list-more, end-more}
 use Rattle.lexis_rules.specs.Limits.{byteLimit}
-use Rattle.resinfo_rules.specs.Results.{Result}
-use Rattle.resinfo_rules.specs.Table.{understood}
-use Rattle.marks.specs.Marks.{spaced}
-use Rattle.body.specs.Body.{resinfo}
-use Rattle.body.specs.Report.{resultLines, lines, ignoredOf}
-use Rattle.body_laws.proofs.Sequence.{resinfo-within}
-use Rattle.result_lines.specs.declared.Turn.{Turn}
-use Rattle.result_lines.specs.declared.Turn.the-variants as turn
+use Rattle.result_rules.specs.Results.{Result}
+use Rattle.result_rules.specs.Table.{understood}
+use Rattle.result_separators.specs.Marks.{spaced}
+use Rattle.report_rules.specs.Body.{resinfo}
+use Rattle.report_rules.specs.Report.{resultLines, lines, ignoredOf}
+use Rattle.report_laws.proofs.Sequence.{resinfo-within}
+use Rattle.report_results.specs.declared.Turn.{Turn}
+use Rattle.report_results.specs.declared.Turn.the-variants as turn
 use Rattle.report.specs.Internal.{turnLines, TurnRead, TurnPut, ResultsPut}
-use Rattle.body_laws.proofs.Sizes.{resinfo-size}
+use Rattle.report_laws.proofs.Sizes.{resinfo-size}
 use Rattle.report.proofs.Fronts.{Fronting, fronting-start, fronting-step, fronting-over, fronting-end, fronting-done}
 
 -- ==== one result more

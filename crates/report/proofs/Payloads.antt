@@ -8,34 +8,34 @@ use mathlib.Core.List.{List, [], _∷_}
 use borrow.Author.Tests.{leb-true, leb-false}
 use lib.Dec.{leb}
 use lib.ListN.{length, drop, length-drop}
-use Rattle.sequences.specs.Stored.{cap, Clipped}
-use Rattle.sequences.proofs.Clips.{clipped-wrote}
-use Rattle.sequences.proofs.Booleans.{no-true}
-use Rattle.reading.specs.Texts.{bytes, within, same, starts}
-use Rattle.reading.specs.Parsers.{Got, nothing, got, Parser, _>>_, give, when, end, several}
-use Rattle.reading.specs.Places.{from, listAt, endAt}
-use Rattle.reading.specs.Locality.{Within}
-use Rattle.reading.proofs.Sequencing.{no-got, bind-none, pass-not}
-use Rattle.reading.proofs.Bounds.{several-within}
-use Rattle.reading.proofs.Places.{took, none-at, goes-on, stops, gives, passes, fails, end-at, end-not, skipping-at}
-use Rattle.reading.proofs.Repeats.{Turn, stop, turn, several-inv, list-is}
+use Rattle.base_sequences.specs.Stored.{cap, Clipped}
+use Rattle.base_sequences.proofs.Clips.{clipped-wrote}
+use Rattle.base_sequences.proofs.Booleans.{no-true}
+use Rattle.base_readers.specs.Texts.{bytes, within, same, starts}
+use Rattle.base_readers.specs.Parsers.{Got, nothing, got, Parser, _>>_, give, when, end, several}
+use Rattle.base_readers.specs.Places.{from, listAt, endAt}
+use Rattle.base_readers.specs.Locality.{Within}
+use Rattle.base_readers.proofs.Sequencing.{no-got, bind-none, pass-not}
+use Rattle.base_readers.proofs.Bounds.{several-within}
+use Rattle.base_readers.proofs.Places.{took, none-at, goes-on, stops, gives, passes, fails, end-at, end-not, skipping-at}
+use Rattle.base_readers.proofs.Repeats.{Turn, stop, turn, several-inv, list-is}
 use Rattle.lexis_rules.specs.Limits.{byteLimit}
 use Rattle.lexis_rules.specs.Bytes.{lower, alike}
 use Rattle.lexis_rules.specs.Pieces.{space, keyword}
 use Rattle.lexis_rules.specs.Words.{keywordText, skip, readKeyword, readWord}
-use Rattle.resinfo_rules.specs.Results.{Result, mark}
-use Rattle.marks.specs.Marks.{spaced, marked, markedFrom}
-use Rattle.sequences.specs.Spans.{span}
-use Rattle.marks.proofs.Marks.{mark-is, mark-reads, mark-found, keyword-reads, marked-no}
-use Rattle.body.specs.Body.{Reading, malformed, noResult, results, resinfo, resinfos, wordNone, payload}
-use Rattle.body.specs.Report.{line, noneLine, lines}
-use Rattle.body_laws.proofs.Readings.{payload-is}
-use Rattle.body_laws.proofs.Sequence.{resinfo-within, Reads, over, more, reads-inv}
-use Rattle.body_laws.proofs.NoResult.{word-no-result}
-use Rattle.body.specs.declared.Reported.{Reported}
+use Rattle.result_rules.specs.Results.{Result, mark}
+use Rattle.result_separators.specs.Marks.{spaced, marked, markedFrom}
+use Rattle.base_sequences.specs.Spans.{span}
+use Rattle.result_separators.proofs.Marks.{mark-is, mark-reads, mark-found, keyword-reads, marked-no}
+use Rattle.report_rules.specs.Body.{Reading, malformed, noResult, results, resinfo, resinfos, wordNone, payload}
+use Rattle.report_rules.specs.Report.{line, noneLine, lines}
+use Rattle.report_laws.proofs.Readings.{payload-is}
+use Rattle.report_laws.proofs.Sequence.{resinfo-within, Reads, over, more, reads-inv}
+use Rattle.report_laws.proofs.NoResult.{word-no-result}
+use Rattle.report_rules.specs.declared.Reported.{Reported}
 use Rattle.report.specs.declared.results.Results.{Results}
 use Rattle.report.specs.Internal.{succeeds, refused, Fronted, Behind, ResultsPut}
-use Rattle.body_laws.proofs.Sizes.{lines-size}
+use Rattle.report_laws.proofs.Sizes.{lines-size}
 use Rattle.report.proofs.Fronts.{wrote-fronted, fronted-none}
 
 -- ==== whether a parser succeeds at a place

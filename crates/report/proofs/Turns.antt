@@ -1,4 +1,4 @@
--- One result with the space and the ";" before it: what `result_lines` reads and writes behind the mark is the result there. Assumes nothing.
+-- One result with the space and the ";" before it: what `report_results` reads and writes behind the mark is the result there. Assumes nothing.
 use Prim.Native.Nat.{ℕ, _+_, _<_, _^_, min}
 use native.Mathlib.Omega.{arith}
 use mathlib.Core.Path.{_≡_, refl, sym, ap, _∙_, subst}
@@ -6,22 +6,22 @@ use mathlib.Core.Bool.{Bool, true, false}
 use mathlib.Core.List.{List}
 use lib.ListN.{length, drop}
 use lib.Seq.{sets, drop-drop}
-use Rattle.sequences.specs.Stored.{cap}
-use Rattle.reading.specs.Parsers.{Got, nothing, got, byte}
-use Rattle.reading.specs.Places.{from}
-use Rattle.reading.proofs.Sequencing.{byte-is, byte-not}
-use Rattle.reading.proofs.Places.{at-got, at-none, goes-on, stops, skipping-at}
+use Rattle.base_sequences.specs.Stored.{cap}
+use Rattle.base_readers.specs.Parsers.{Got, nothing, got, byte}
+use Rattle.base_readers.specs.Places.{from}
+use Rattle.base_readers.proofs.Sequencing.{byte-is, byte-not}
+use Rattle.base_readers.proofs.Places.{at-got, at-none, goes-on, stops, skipping-at}
 use Rattle.lexis_rules.specs.Pieces.{space}
 use Rattle.lexis_rules.specs.Words.{skip}
-use Rattle.resinfo_rules.specs.Results.{Result, next, unmarked, result}
-use Rattle.resinfo_rules.specs.Table.{understood}
-use Rattle.marks.specs.Marks.{spaced, marked, markedFrom}
-use Rattle.marks.proofs.Marks.{marked-yes, marked-no, mark-found}
-use Rattle.body.specs.Body.{resinfo}
-use Rattle.body.specs.Report.{resultLines}
-use Rattle.result_lines.specs.declared.Turn.{Turn}
-use Rattle.result_lines.specs.declared.Turn.the-variants as turn
-use Rattle.result_lines.specs.Turns.{turnAt, linesAt}
+use Rattle.result_rules.specs.Results.{Result, next, unmarked, result}
+use Rattle.result_rules.specs.Table.{understood}
+use Rattle.result_separators.specs.Marks.{spaced, marked, markedFrom}
+use Rattle.result_separators.proofs.Marks.{marked-yes, marked-no, mark-found}
+use Rattle.report_rules.specs.Body.{resinfo}
+use Rattle.report_rules.specs.Report.{resultLines}
+use Rattle.report_results.specs.declared.Turn.{Turn}
+use Rattle.report_results.specs.declared.Turn.the-variants as turn
+use Rattle.report_results.specs.Turns.{turnAt, linesAt}
 use Rattle.report.specs.Internal.{turnLines, TurnPut}
 
 module _ (s : List ℕ) (i : ℕ) where

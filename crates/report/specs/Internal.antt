@@ -5,22 +5,22 @@ use mathlib.Core.Bool.{Bool, true, false}
 use mathlib.Core.List.{List, [], _++_}
 use lib.ListN.{length, take, drop}
 use lib.Seq.{sets}
-use Rattle.sequences.specs.Stored.{Wrote}
-use Rattle.reading.specs.Texts.{follows}
-use Rattle.reading.specs.Parsers.{nothing, got, Parser, optional}
-use Rattle.reading.specs.Places.{from, listAt, endAt}
+use Rattle.base_sequences.specs.Stored.{Wrote}
+use Rattle.base_readers.specs.Texts.{follows}
+use Rattle.base_readers.specs.Parsers.{nothing, got, Parser, optional}
+use Rattle.base_readers.specs.Places.{from, listAt, endAt}
 use Rattle.lexis_rules.specs.declared.Class.the-variants.{Delimiter}
 use Rattle.lexis_rules.specs.Bytes.{inClass}
-use Rattle.authserv_rules.specs.Version.{stated, headerVersion}
-use Rattle.resinfo_rules.specs.Results.{Result}
-use Rattle.sequences.specs.Spans.{span}
-use Rattle.marks.specs.Marks.{spaced}
-use Rattle.resinfo_rules.specs.Table.{understood}
-use Rattle.body.specs.Body.{Reading, unreadable, malformed, newer, noResult, results, resinfo, headed}
-use Rattle.body.specs.Report.{idLine, versionLine, noneLine, resultLines, lines, ignoredOf}
-use Rattle.body.specs.declared.Reported.{Reported}
-use Rattle.result_lines.specs.declared.Turn.{Turn}
-use Rattle.result_lines.specs.declared.Turn.the-variants as turn
+use Rattle.identifier_rules.specs.Version.{stated, headerVersion}
+use Rattle.result_rules.specs.Results.{Result}
+use Rattle.base_sequences.specs.Spans.{span}
+use Rattle.result_separators.specs.Marks.{spaced}
+use Rattle.result_rules.specs.Table.{understood}
+use Rattle.report_rules.specs.Body.{Reading, unreadable, malformed, newer, noResult, results, resinfo, headed}
+use Rattle.report_rules.specs.Report.{idLine, versionLine, noneLine, resultLines, lines, ignoredOf}
+use Rattle.report_rules.specs.declared.Reported.{Reported}
+use Rattle.report_results.specs.declared.Turn.{Turn}
+use Rattle.report_results.specs.declared.Turn.the-variants as turn
 use Rattle.report.specs.declared.results.Results.{Results}
 
 -- ==== one result, with the space and the ";" before it

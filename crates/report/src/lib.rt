@@ -9,23 +9,23 @@
 //   6  `out` is too short: the bytes needed
 // tried in this order (1, then 7, 8 or 9, then 6 where it would have been 0 or 8). A refusal, any of these but 0 and 8, writes nothing and
 // returns zero counts; bytes past those written stay unchanged.
-use answer_numbers::Number;
-use authserv::Identifier;
-use body::Reported;
-use first_pass::Copy;
-use header_versions::Version;
+use base_answers::Number;
+use identifier::Identifier;
+use identifier::version::Version;
+use report_rules::Reported;
+use text_first_pass::Copy;
 ghost use mathlib.Core.Path.{_≡_};
 ghost use mathlib.Core.List.{[]};
 ghost use Prim.Native.Nat.{_≤_, _^_};
 ghost use lib.ListN.{length, drop};
-ghost use Rattle.sequences.specs.Stored.{cap};
-ghost use Rattle.reading.specs.Texts.{bytes};
+ghost use Rattle.base_sequences.specs.Stored.{cap};
+ghost use Rattle.base_readers.specs.Texts.{bytes};
 ghost use Rattle.lexis_rules.specs.Limits.{byteLimit};
-ghost use Rattle.authserv.specs.Answers.{identifierAt};
-ghost use Rattle.marks.specs.Marks.{spaced};
-ghost use Rattle.body.specs.Body.{wordNone, payload, headed, reading};
-ghost use Rattle.body.specs.Report.{report};
-ghost use Rattle.body.specs.Answers.{answerOf, leaves};
+ghost use Rattle.identifier.specs.Answers.{identifierAt};
+ghost use Rattle.result_separators.specs.Marks.{spaced};
+ghost use Rattle.report_rules.specs.Body.{wordNone, payload, headed, reading};
+ghost use Rattle.report_rules.specs.Report.{report};
+ghost use Rattle.report_rules.specs.Answers.{answerOf, leaves};
 ghost use Rattle.report.specs.Internal.{succeeds, newerAt, headedAt, Behind, Said};
 
 mod results;
@@ -46,16 +46,16 @@ fn says_none(s: &[u8], at: usize, gap: usize) -> bool
     requires { ⌜ gap ≡ spaced (now s) at ⌝ }
     ensures { λ r. ⌜ r ≡ succeeds wordNone (drop at (now (s .entry))) ⌝ }
 {
-    let a = marks::mark_from(s, at, gap, b';');
+    let a = result_separators::mark_from(s, at, gap, b';');
     if a == at {
         return false;
     }
-    let e = tokens::keyword_end(s, a);
+    let e = lexis_tokens::keyword_end(s, a);
     if e == a {
         return false;
     }
-    if comparing::same_text(&s[a..e], b"none") {
-        return lexis::space_end(s, e) >= s.len();
+    if text_compare::same_text(&s[a..e], b"none") {
+        return lexis_space::space_end(s, e) >= s.len();
     }
     false
 }
@@ -65,7 +65,7 @@ fn put_payload(s: &[u8], at: usize, out: &mut [u8], to: usize) -> Reported
     requires { ⌜ (length (now s) ≤ byteLimit) × (to ≤ 2 ^ 32) ⌝ }
     ensures { λ r. ⌜ Behind (payload [] (drop at (now (s .entry)))) (now (out .entry)) to (now (out .exit)) r ⌝ }
 {
-    let gap = lexis::space_end(s, at);
+    let gap = lexis_space::space_end(s, at);
     if says_none(s, at, gap) {
         let n = report_lines::put_none(out, to);
         return Reported {
@@ -95,7 +95,7 @@ fn put_version_one(s: &[u8], at: usize, out: &mut [u8], to: usize) -> Reported
     requires { ⌜ (length (now s) ≤ byteLimit) × (to ≤ 2 ^ 32) ⌝ }
     ensures { λ r. ⌜ Behind (headed (record { identifier = []; version = bytes "1" }) (drop at (now (s .entry)))) (now (out .entry)) to (now (out .exit)) r ⌝ }
 {
-    if delimiters::delimited(s, at) {
+    if lexis_classes::delimiters::delimited(s, at) {
         return put_payload(s, at, out, to);
     }
     refuse(Number::MALFORMED, 0)
@@ -106,7 +106,7 @@ fn put_newer(s: &[u8], a: usize, e: usize, out: &mut [u8], to: usize) -> Reporte
     requires { ⌜ ((length (now s) ≤ byteLimit) × (to ≤ 2 ^ 32)) × ((a ≤ e) × (e ≤ length (now s))) ⌝ }
     ensures { λ r. ⌜ Behind (newerAt (now (s .entry)) a e) (now (out .entry)) to (now (out .exit)) r ⌝ }
 {
-    if delimiters::delimited(s, e) {
+    if lexis_classes::delimiters::delimited(s, e) {
         let n = report_lines::put_version(&s[a..e], out, to);
         return Reported {
             number: Number::NEWER,
@@ -123,9 +123,9 @@ fn put_headed(s: &[u8], at: usize, out: &mut [u8], to: usize) -> Reported
     requires { ⌜ (length (now s) ≤ byteLimit) × (to ≤ 2 ^ 32) ⌝ }
     ensures { λ r. ⌜ Behind (headedAt (now (s .entry)) at) (now (out .entry)) to (now (out .exit)) r ⌝ }
 {
-    match header_versions::version_at(s, at) {
+    match identifier::version::version_at(s, at) {
         Version::Stated { start, end, number } => {
-            if digit_runs::is_one(number) {
+            if lexis_digits::is_one(number) {
                 return put_version_one(s, end, out, to);
             }
             put_newer(s, start, end, out, to)
@@ -156,7 +156,7 @@ fn put_measured(s: &[u8], a: usize, e: usize, quoted: bool, out: &mut [u8]) -> R
     if first.number == Number::MALFORMED {
         return first;
     }
-    match first_pass::copy_first(&scratch, first.written, out) {
+    match text_first_pass::copy_first(&scratch, first.written, out) {
         Copy::Short => refuse(Number::TOO_SHORT, first.written),
         Copy::Again => put_body(s, a, e, quoted, &mut out[..first.written]),
         Copy::Done => first,
@@ -168,10 +168,10 @@ pub fn report(body: &[u8], out: &mut [u8]) -> Reported
     ensures { λ r. ⌜ r ≡ answerOf (report (now (body .entry)) (length (now (out .entry)))) ⌝ }
     ensures { λ _. ⌜ now (out .exit) ≡ leaves (report (now (body .entry)) (length (now (out .entry)))) (now (out .entry)) ⌝ }
 {
-    if lexis::too_long(body) {
+    if lexis_space::too_long(body) {
         return refuse(Number::TOO_LONG, 0);
     }
-    let Identifier::Readable { start, end, quoted } = authserv::identify(body) else {
+    let Identifier::Readable { start, end, quoted } = identifier::identify(body) else {
         return refuse(Number::UNREADABLE, 0);
     };
     put_measured(body, start, end, quoted, out)
@@ -182,10 +182,10 @@ pub fn report(body: &[u8], out: &mut [u8]) -> Reported
 pub fn measure(body: &[u8]) -> Reported
     ensures { λ r. ⌜ r ≡ answerOf (report (now (body .entry)) cap) ⌝ }
 {
-    if lexis::too_long(body) {
+    if lexis_space::too_long(body) {
         return refuse(Number::TOO_LONG, 0);
     }
-    let Identifier::Readable { start, end, quoted } = authserv::identify(body) else {
+    let Identifier::Readable { start, end, quoted } = identifier::identify(body) else {
         return refuse(Number::UNREADABLE, 0);
     };
     let mut none = [0u8; 1];

@@ -5,15 +5,15 @@
 //
 // The space behind each result is read once: with the place where it ends (`at`, `end`) goes the place where the space behind it ends
 // (`gap`).
-use result_lines::Turn;
+use report_results::Turn;
 ghost use mathlib.Core.Path.{_≡_};
 ghost use Prim.Native.Nat.{_+_, _≤_, _<_, _^_};
 ghost use lib.ListN.{length};
-ghost use Rattle.reading.specs.Places.{listAt};
+ghost use Rattle.base_readers.specs.Places.{listAt};
 ghost use Rattle.lexis_rules.specs.Limits.{byteLimit};
-ghost use Rattle.marks.specs.Marks.{spaced};
-ghost use Rattle.body.specs.Body.{resinfo};
-ghost use Rattle.body.specs.Report.{lines};
+ghost use Rattle.result_separators.specs.Marks.{spaced};
+ghost use Rattle.report_rules.specs.Body.{resinfo};
+ghost use Rattle.report_rules.specs.Report.{lines};
 ghost use Rattle.report.specs.Internal.{turnLines, TurnPut, ResultsPut};
 
 // The next result behind a place, with its lines: a mark, and what stands behind it.
@@ -21,11 +21,11 @@ fn put_next(s: &[u8], at: usize, gap: usize, out: &mut [u8], to: usize) -> Turn
     requires { ⌜ (gap ≡ spaced (now s) at) × (to + length (turnLines (now s) at) < 2 ^ 64) ⌝ }
     ensures { λ r. ⌜ TurnPut (now (s .entry)) at (now (out .entry)) to (now (out .exit)) r ⌝ }
 {
-    let a = marks::mark_from(s, at, gap, b';');
+    let a = result_separators::mark_from(s, at, gap, b';');
     if a == at {
         return Turn::Missing;
     }
-    result_lines::put_result(s, a, out, to)
+    report_results::put_result(s, a, out, to)
 }
 
 // All results behind a place: the place after the last of them, with its space, the place after the lines of those that are understood,

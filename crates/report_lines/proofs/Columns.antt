@@ -8,23 +8,23 @@ use mathlib.Core.List.{List, [], _∷_, _++_, map, append-assoc}
 use mathlib.Core.Option.{some}
 use lib.ListN.{length, take, drop, drop-of-length-le, length-drop}
 use lib.Seq.{take-all}
-use Rattle.sequences.specs.Stored.{cap, Clipped, Put}
-use Rattle.sequences.proofs.Clips.{clipped-cap, put-clipped}
-use Rattle.reading.specs.Texts.{bytes}
+use Rattle.base_sequences.specs.Stored.{cap, Clipped, Put}
+use Rattle.base_sequences.proofs.Clips.{clipped-cap, put-clipped}
+use Rattle.base_readers.specs.Texts.{bytes}
 use Rattle.lexis_rules.specs.Bytes.{lower}
 use Rattle.lexis_rules.specs.Words.{quotedText, keywordText}
-use Rattle.authserv.specs.Answers.{textOf}
-use Rattle.values.specs.declared.Value as place
-use Rattle.values.specs.declared.Value.the-variants as at
-use Rattle.resinfo_rules.specs.Results.{Value}
-use Rattle.values.specs.Values.{valueOf}
-use Rattle.sequences.specs.Spans.{span}
-use Rattle.sequences.proofs.Spans.{span-none}
-use Rattle.body.specs.Report.{escape, line, idLine, versionLine, noneLine, reasonLine, letterOf, propertyLine}
+use Rattle.identifier.specs.Answers.{textOf}
+use Rattle.result_values.specs.declared.Value as place
+use Rattle.result_values.specs.declared.Value.the-variants as at
+use Rattle.result_rules.specs.Results.{Value}
+use Rattle.result_values.specs.Values.{valueOf}
+use Rattle.base_sequences.specs.Spans.{span}
+use Rattle.base_sequences.proofs.Spans.{span-none}
+use Rattle.report_rules.specs.Report.{escape, line, idLine, versionLine, noneLine, reasonLine, letterOf, propertyLine}
 use Rattle.report_lines.specs.declared.Parts.{Parts}
 use Rattle.report_lines.specs.Lines.{valueColumns}
 use Rattle.report_lines.specs.Internal.{partsOf, domainText}
-use Rattle.escapes.proofs.Escape.{clipped-two, clipped-three, clipped-four, escape-none, escape-sign, escape-append}
+use Rattle.report_escape.proofs.Escape.{clipped-two, clipped-three, clipped-four, escape-none, escape-sign, escape-append}
 
 -- ==== the text of a value, quoted or not
 

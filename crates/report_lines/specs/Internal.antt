@@ -3,9 +3,9 @@ use Prim.Native.Char.{code}
 use Prim.Native.Nat.{ℕ, _+_}
 use mathlib.Core.Bool.{Bool, true, false}
 use mathlib.Core.List.{List, [], _∷_}
-use Rattle.values.specs.declared.Value as place
-use Rattle.values.specs.declared.Value.the-variants as at
-use Rattle.sequences.specs.Spans.{span}
+use Rattle.result_values.specs.declared.Value as place
+use Rattle.result_values.specs.declared.Value.the-variants as at
+use Rattle.base_sequences.specs.Spans.{span}
 use Rattle.report_lines.specs.declared.Parts.{Parts}
 
 -- the parts of a property value: a mailbox is a text and then "@" and its domain, an at-domain is the same with no text

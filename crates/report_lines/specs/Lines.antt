@@ -4,14 +4,14 @@ use Prim.Native.Nat.{ℕ}
 use mathlib.Core.Bool.{Bool}
 use mathlib.Core.List.{List, [], _∷_, _++_}
 use mathlib.Core.Option.{some}
-use Rattle.reading.specs.Texts.{bytes}
+use Rattle.base_readers.specs.Texts.{bytes}
 use Rattle.lexis_rules.specs.Words.{keywordText}
-use Rattle.authserv.specs.Answers.{textOf}
-use Rattle.values.specs.declared.Value as place
-use Rattle.resinfo_rules.specs.Results.{Value}
-use Rattle.values.specs.Values.{valueOf}
-use Rattle.sequences.specs.Spans.{span}
-use Rattle.body.specs.Report.{escape, line, reasonLine, letterOf, propertyLine}
+use Rattle.identifier.specs.Answers.{textOf}
+use Rattle.result_values.specs.declared.Value as place
+use Rattle.result_rules.specs.Results.{Value}
+use Rattle.result_values.specs.Values.{valueOf}
+use Rattle.base_sequences.specs.Spans.{span}
+use Rattle.report_rules.specs.Report.{escape, line, reasonLine, letterOf, propertyLine}
 
 -- the line of a method from a up to e with its result from b up to f
 abbrev pub methodText : List ℕ → ℕ → ℕ → ℕ → ℕ → List ℕ

@@ -5,15 +5,15 @@
 // writer is handed a buffer and a place in it, any place (`put_id` writes from the start). It stores as much of the line as there is room
 // for from there on, changes no other byte, and returns the place after the whole line, at most the largest place, which no buffer reaches.
 // Run on an empty buffer it only measures.
-use values::Value;
+use result_values::Value;
 ghost use mathlib.Core.Path.{_≡_};
 ghost use mathlib.Core.List.{_∷_, map};
-ghost use Rattle.sequences.specs.Stored.{Clipped};
+ghost use Rattle.base_sequences.specs.Stored.{Clipped};
 ghost use Rattle.lexis_rules.specs.Bytes.{lower};
-ghost use Rattle.authserv.specs.Answers.{textOf};
-ghost use Rattle.values.specs.Values.{valueOf};
-ghost use Rattle.sequences.specs.Spans.{span};
-ghost use Rattle.body.specs.Report.{escape, idLine, versionLine, noneLine};
+ghost use Rattle.identifier.specs.Answers.{textOf};
+ghost use Rattle.result_values.specs.Values.{valueOf};
+ghost use Rattle.base_sequences.specs.Spans.{span};
+ghost use Rattle.report_rules.specs.Report.{escape, idLine, versionLine, noneLine};
 ghost use Rattle.report_lines.specs.Internal.{partsOf, domainText};
 ghost use Rattle.report_lines.specs.Lines.{valueColumns, methodText, reasonText, propertyText};
 
@@ -25,17 +25,17 @@ fn put_value_text(s: &[u8], a: usize, e: usize, quoted: bool, out: &mut [u8], to
     ensures { λ r. ⌜ Clipped (now (out .entry)) to (escape (textOf (now (s .entry)) a e quoted)) (now (out .exit)) r ⌝ }
 {
     if quoted {
-        return escaping::put_quoted(s, a, out, to);
+        return report_escape::put_quoted(s, a, out, to);
     }
-    escaping::put_escaped(spans::part(s, a, e), out, to)
+    report_escape::put_escaped(text_parts::part(s, a, e), out, to)
 }
 
 // A tab and the keyword from a up to e in lower case.
 fn put_keyword(s: &[u8], a: usize, e: usize, out: &mut [u8], to: usize) -> usize
     ensures { λ r. ⌜ Clipped (now (out .entry)) to (9 ∷ map lower (span (now (s .entry)) a e)) (now (out .exit)) r ⌝ }
 {
-    let n = texts::put_byte(b'\t', out, to);
-    let k = texts::put_lower(spans::part(s, a, e), out, n);
+    let n = text_write::put_byte(b'\t', out, to);
+    let k = text_write::put_lower(text_parts::part(s, a, e), out, n);
     if k < LARGEST - n {
         return n + k;
     }
@@ -103,9 +103,9 @@ fn put_domain(s: &[u8], signed: bool, sign: usize, e: usize, out: &mut [u8], to:
     ensures { λ r. ⌜ Clipped (now (out .entry)) to (escape (domainText (now (s .entry)) signed sign e)) (now (out .exit)) r ⌝ }
 {
     if signed {
-        let n = texts::put_byte(b'@', out, to);
+        let n = text_write::put_byte(b'@', out, to);
         if sign < e {
-            return escaping::put_escaped(spans::part(s, sign + 1, e), out, n);
+            return report_escape::put_escaped(text_parts::part(s, sign + 1, e), out, n);
         }
         return n;
     }
@@ -118,10 +118,10 @@ fn put_value(s: &[u8], v: Value, out: &mut [u8], to: usize) -> usize
 {
     let p = parts_of(v);
     let kind = [b'\t', p.letter, b'\t'];
-    let n = texts::put_part(&kind, out, to);
+    let n = text_write::put_part(&kind, out, to);
     let m = put_value_text(s, p.start, p.end, p.quoted, out, n);
     let k = put_domain(s, p.signed, p.end, p.last, out, m);
-    texts::put_byte(b'\n', out, k)
+    text_write::put_byte(b'\n', out, k)
 }
 
 // The line of a property whose ptype stands from a up to e and whose name from b up to f.
@@ -137,7 +137,7 @@ pub fn put_property(
 ) -> usize
     ensures { λ r. ⌜ Clipped (now (out .entry)) to (propertyText (now (s .entry)) a e b f v) (now (out .exit)) r ⌝ }
 {
-    let n = texts::put_byte(b'p', out, to);
+    let n = text_write::put_byte(b'p', out, to);
     let m = put_keyword(s, a, e, out, n);
     let k = put_keyword(s, b, f, out, m);
     put_value(s, v, out, k)
@@ -155,42 +155,42 @@ pub fn put_method(
 ) -> usize
     ensures { λ r. ⌜ Clipped (now (out .entry)) to (methodText (now (s .entry)) a e b f) (now (out .exit)) r ⌝ }
 {
-    let n = texts::put_byte(b'm', out, to);
+    let n = text_write::put_byte(b'm', out, to);
     let m = put_keyword(s, a, e, out, n);
     let k = put_keyword(s, b, f, out, m);
-    texts::put_byte(b'\n', out, k)
+    text_write::put_byte(b'\n', out, k)
 }
 
 // The line of a reason whose value stands from a up to e, quoted or not.
 pub fn put_reason(s: &[u8], a: usize, e: usize, quoted: bool, out: &mut [u8], to: usize) -> usize
     ensures { λ r. ⌜ Clipped (now (out .entry)) to (reasonText (now (s .entry)) a e quoted) (now (out .exit)) r ⌝ }
 {
-    let n = texts::put_part(b"r\t", out, to);
+    let n = text_write::put_part(b"r\t", out, to);
     let m = put_value_text(s, a, e, quoted, out, n);
-    texts::put_byte(b'\n', out, m)
+    text_write::put_byte(b'\n', out, m)
 }
 
 // The line of an identifier that stands from a up to e, quoted or not, over the front of the buffer.
 pub fn put_id(s: &[u8], a: usize, e: usize, quoted: bool, out: &mut [u8]) -> usize
     ensures { λ r. ⌜ Clipped (now (out .entry)) 0 (idLine (textOf (now (s .entry)) a e quoted)) (now (out .exit)) r ⌝ }
 {
-    let n = texts::put_part(b"id\t", out, 0);
+    let n = text_write::put_part(b"id\t", out, 0);
     let m = put_value_text(s, a, e, quoted, out, n);
-    texts::put_byte(b'\n', out, m)
+    text_write::put_byte(b'\n', out, m)
 }
 
 // The line of a header version by its digits.
 pub fn put_version(digits: &[u8], out: &mut [u8], to: usize) -> usize
     ensures { λ r. ⌜ Clipped (now (out .entry)) to (versionLine (now (digits .entry))) (now (out .exit)) r ⌝ }
 {
-    let n = texts::put_part(b"v\t", out, to);
-    let m = texts::put_part(digits, out, n);
-    texts::put_byte(b'\n', out, m)
+    let n = text_write::put_part(b"v\t", out, to);
+    let m = text_write::put_part(digits, out, n);
+    text_write::put_byte(b'\n', out, m)
 }
 
 // The line of the word none.
 pub fn put_none(out: &mut [u8], to: usize) -> usize
     ensures { λ r. ⌜ Clipped (now (out .entry)) to noneLine (now (out .exit)) r ⌝ }
 {
-    texts::put_part(b"none\n", out, to)
+    text_write::put_part(b"none\n", out, to)
 }

@@ -5,19 +5,19 @@ use mathlib.Core.Path.{_≡_, refl, sym, ap, _∙_}
 use mathlib.Core.List.{List}
 use lib.ListN.{drop}
 use lib.Seq.{drop-drop}
-use Rattle.reading.specs.Parsers.{Got, nothing, got, Parser, after, _>>=_, give}
-use Rattle.reading.specs.Places.{from}
-use Rattle.reading.proofs.Sequencing.{after-zero, after-after, bind-none, bind-is, give-is}
-use Rattle.reading.proofs.Places.{goes-on, stops, gives}
+use Rattle.base_readers.specs.Parsers.{Got, nothing, got, Parser, after, _>>=_, give}
+use Rattle.base_readers.specs.Places.{from}
+use Rattle.base_readers.proofs.Sequencing.{after-zero, after-after, bind-none, bind-is, give-is}
+use Rattle.base_readers.proofs.Places.{goes-on, stops, gives}
 use Rattle.lexis_rules.specs.Pieces.{space, keyword}
 use Rattle.lexis_rules.specs.Words.{keywordText, gap, readKeyword}
 use Rattle.result_parts.specs.declared.Label.{Label}
 use Rattle.result_parts.specs.declared.Label.the-variants.{Read, Missing}
-use Rattle.resinfo_rules.specs.Results.{Property, mark, propertyValue, property}
-use Rattle.marks.specs.Marks.{marked, behind}
+use Rattle.result_rules.specs.Results.{Property, mark, propertyValue, property}
+use Rattle.result_separators.specs.Marks.{marked, behind}
 use Rattle.result_parts.specs.Parts.{Names, names, namesAt, labelFrom, labelAt, labelGot}
-use Rattle.sequences.specs.Spans.{span}
-use Rattle.marks.proofs.Marks.{past-none, past-some, behind-none, behind-some, through, gap-reads, mark-reads, keyword-reads}
+use Rattle.base_sequences.specs.Spans.{span}
+use Rattle.result_separators.proofs.Marks.{past-none, past-some, behind-none, behind-some, through, gap-reads, mark-reads, keyword-reads}
 
 -- ==== by the tests of the code
 

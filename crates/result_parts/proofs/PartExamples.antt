@@ -3,16 +3,16 @@ use Prim.Native.Nat.{ℕ}
 use mathlib.Core.Path.{refl}
 use mathlib.Core.Bool.{true, false}
 use mathlib.Core.List.{List, [], _∷_}
-use Rattle.reading.specs.Texts.{bytes}
-use Rattle.reading.specs.Parsers.{Got, nothing, got}
-use Rattle.reading.proofs.Cases.{Case, case, Says}
+use Rattle.base_readers.specs.Texts.{bytes}
+use Rattle.base_readers.specs.Parsers.{Got, nothing, got}
+use Rattle.base_readers.proofs.Cases.{Case, case, Says}
 use Rattle.lexis_rules.specs.Answers.{valueAt}
 use Rattle.result_parts.specs.declared.Reason.the-variants.{Stated, Absent}
 use Rattle.result_parts.specs.declared.Label.the-variants as label
-use Rattle.resinfo_rules.specs.Results.{reason}
-use Rattle.marks.specs.Marks.{marked, past}
+use Rattle.result_rules.specs.Results.{reason}
+use Rattle.result_separators.specs.Marks.{marked, past}
 use Rattle.result_parts.specs.Parts.{reasonFrom, reasonAt, reasonGot, Names, names, namesAt, labelFrom, labelAt, labelGot}
-use Rattle.resinfo_rules.proofs.Opened as definitions
+use Rattle.result_rules.proofs.Opened as definitions
 
 unfoldable opened : Unit {0}
 unfolding definitions.opened valueAt marked past reasonFrom names namesAt labelFrom

@@ -7,9 +7,9 @@ use lib.ListN.{length}
 use Rattle.lexis_rules.specs.Pieces.{space, keyword}
 use Rattle.result_parts.specs.declared.Label.{Label}
 use Rattle.result_parts.specs.declared.Label.the-variants.{Read, Missing}
-use Rattle.marks.specs.Marks.{marked}
+use Rattle.result_separators.specs.Marks.{marked}
 use Rattle.result_parts.specs.Parts.{namesAt, labelFrom, labelAt}
-use Rattle.marks.proofs.Marks.{all-behind, marked-fits, ends-inside}
+use Rattle.result_separators.proofs.Marks.{all-behind, marked-fits, ends-inside}
 
 -- a ptype from a up to e, a property from b up to f, and the value's place, found behind a place
 pub record LabelPlaces (s : List ℕ) (at a e b f v : ℕ) : Type 0 where

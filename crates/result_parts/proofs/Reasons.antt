@@ -5,11 +5,11 @@ use mathlib.Core.Path.{_≡_, refl, sym, ap, _∙_}
 use mathlib.Core.Bool.{Bool, true, false}
 use mathlib.Core.List.{List}
 use lib.ListN.{getD, take, drop}
-use Rattle.reading.specs.Texts.{bytes, within, same}
-use Rattle.reading.specs.Parsers.{Got, nothing, got, when}
-use Rattle.reading.specs.Places.{from}
-use Rattle.reading.proofs.Readers.{passing-yes, passing-no}
-use Rattle.reading.proofs.Places.{goes-on, stops, passes, fails}
+use Rattle.base_readers.specs.Texts.{bytes, within, same}
+use Rattle.base_readers.specs.Parsers.{Got, nothing, got, when}
+use Rattle.base_readers.specs.Places.{from}
+use Rattle.base_readers.proofs.Readers.{passing-yes, passing-no}
+use Rattle.base_readers.proofs.Places.{goes-on, stops, passes, fails}
 use Rattle.lexis_rules.specs.declared.Value.{Value}
 use Rattle.lexis_rules.specs.declared.Value.the-variants.{Token, Quoted, Nothing}
 use Rattle.lexis_rules.specs.Bytes.{lower, alike}
@@ -19,12 +19,12 @@ use Rattle.lexis_rules.specs.Answers.{valueAt, valueGot}
 use Rattle.lexis_laws.proofs.Values.{value-got}
 use Rattle.result_parts.specs.declared.Reason.{Reason}
 use Rattle.result_parts.specs.declared.Reason.the-variants.{Absent}
-use Rattle.resinfo_rules.specs.Results.{mark, reason}
-use Rattle.resinfo_laws.proofs.Keywords.{alike-first}
-use Rattle.marks.specs.Marks.{marked, behind}
+use Rattle.result_rules.specs.Results.{mark, reason}
+use Rattle.result_laws.proofs.Keywords.{alike-first}
+use Rattle.result_separators.specs.Marks.{marked, behind}
 use Rattle.result_parts.specs.Parts.{reasonWord, statedAs, reasonFrom, reasonAt, reasonGot}
-use Rattle.sequences.specs.Spans.{span}
-use Rattle.marks.proofs.Marks.{past-none, past-some, behind-none, behind-some, Reads, through, gap-reads, mark-reads, keyword-reads}
+use Rattle.base_sequences.specs.Spans.{span}
+use Rattle.result_separators.proofs.Marks.{past-none, past-some, behind-none, behind-some, Reads, through, gap-reads, mark-reads, keyword-reads}
 
 -- ==== the word, by the tests of the code
 

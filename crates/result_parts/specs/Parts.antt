@@ -5,9 +5,9 @@ use Prim.Native.Nat.{ℕ}
 use mathlib.Core.Bool.{true, false}
 use mathlib.Core.List.{List}
 use lib.ListN.{drop}
-use Rattle.reading.specs.Texts.{bytes}
-use Rattle.reading.specs.Readers.{Reader, passing}
-use Rattle.reading.specs.Parsers.{Got, nothing, got, Parser, _>>=_, _>>_, give}
+use Rattle.base_readers.specs.Texts.{bytes}
+use Rattle.base_readers.specs.Readers.{Reader, passing}
+use Rattle.base_readers.specs.Parsers.{Got, nothing, got, Parser, _>>=_, _>>_, give}
 use Rattle.lexis_rules.specs.declared.Value.{Value}
 use Rattle.lexis_rules.specs.declared.Value.the-variants.{Token, Quoted, Nothing}
 use Rattle.lexis_rules.specs.Bytes.{alike}
@@ -18,9 +18,9 @@ use Rattle.result_parts.specs.declared.Reason.{Reason}
 use Rattle.result_parts.specs.declared.Reason.the-variants.{Stated, Absent}
 use Rattle.result_parts.specs.declared.Label.{Label}
 use Rattle.result_parts.specs.declared.Label.the-variants as label
-use Rattle.resinfo_rules.specs.Results.{mark}
-use Rattle.marks.specs.Marks.{spaced, marked, past, behind}
-use Rattle.sequences.specs.Spans.{span}
+use Rattle.result_rules.specs.Results.{mark}
+use Rattle.result_separators.specs.Marks.{spaced, marked, past, behind}
+use Rattle.base_sequences.specs.Spans.{span}
 
 -- ==== the reason
 

@@ -19,14 +19,14 @@ pub enum Reason {
 fn reason_word_end(s: &[u8], at: usize) -> usize
     ensures { λ r. ⌜ r ≡ at + reasonWord (drop at (now (s .entry))) ⌝ }
 {
-    if comparing::lower(reading::byte(s, at, 0)) != b'r' {
+    if text_compare::lower(base_readers::byte(s, at, 0)) != b'r' {
         return at;
     }
-    let e = tokens::keyword_end(s, at);
+    let e = lexis_tokens::keyword_end(s, at);
     if e == at {
         return at;
     }
-    if comparing::same_text(&s[at..e], b"reason") {
+    if text_compare::same_text(&s[at..e], b"reason") {
         return e;
     }
     at
@@ -62,11 +62,11 @@ pub fn reason_from(s: &[u8], at: usize, word: usize) -> Reason
     if word_end == word {
         return Reason::Absent;
     }
-    let value = marks::mark_end(s, word_end, b'=');
+    let value = result_separators::mark_end(s, word_end, b'=');
     if value == word_end {
         return Reason::Absent;
     }
-    stated_as(tokens::value_at(s, value))
+    stated_as(lexis_tokens::value_at(s, value))
 }
 
 // A ptype from `type_start` up to `type_end`, a property from `name_start` up to `name_end`, and the place of the property value.
@@ -88,19 +88,19 @@ pub fn label_from(s: &[u8], at: usize, type_start: usize) -> Label
     if type_start == at {
         return Label::Missing;
     }
-    let type_end = tokens::keyword_end(s, type_start);
+    let type_end = lexis_tokens::keyword_end(s, type_start);
     if type_end == type_start {
         return Label::Missing;
     }
-    let name_start = marks::mark_end(s, type_end, b'.');
+    let name_start = result_separators::mark_end(s, type_end, b'.');
     if name_start == type_end {
         return Label::Missing;
     }
-    let name_end = tokens::keyword_end(s, name_start);
+    let name_end = lexis_tokens::keyword_end(s, name_start);
     if name_end == name_start {
         return Label::Missing;
     }
-    let value = marks::mark_end(s, name_end, b'=');
+    let value = result_separators::mark_end(s, name_end, b'=');
     if value == name_end {
         return Label::Missing;
     }

@@ -1,8 +1,8 @@
 -- The definitions at worked examples, computed. Assumes nothing.
 use mathlib.Core.Path.{refl}
 use mathlib.Core.List.{[], _∷_}
-use Rattle.reading.specs.Texts.{bytes}
-use Rattle.reading.proofs.Cases.{case, Says, copies}
+use Rattle.base_readers.specs.Texts.{bytes}
+use Rattle.base_readers.proofs.Cases.{case, Says, copies}
 use Rattle.sample_sums.specs.Sums.{sums, adler, changed}
 
 -- the sums of nothing, of one byte, of "Wikipedia", and of so many bytes that both halves pass 65521

@@ -6,26 +6,26 @@ use mathlib.Core.Bool.{Bool, true, false}
 use mathlib.Core.List.{List}
 use lib.Dec.{ltb}
 use lib.ListN.{length, take}
-use Rattle.sequences.specs.Stored.{Put}
-use Rattle.sequences.proofs.Splices.{put-front}
+use Rattle.base_sequences.specs.Stored.{Put}
+use Rattle.base_sequences.proofs.Splices.{put-front}
 use Rattle.lexis_rules.specs.Limits.{byteLimit}
-use Rattle.listing.specs.declared.Checked.the-variants.{Good, Bad}
+use Rattle.ownlist_check.specs.declared.Checked.the-variants.{Good, Bad}
 use Rattle.block_rules.specs.Fields.{fields}
-use Rattle.authserv_rules.specs.OwnList.{entryLimit, ownList}
-use Rattle.authserv_rules.specs.Ends.{endsOf, cutAt}
-use Rattle.authserv_laws.proofs.Ends.{cut-ends, spelled-ends, good-ends}
-use Rattle.authserv_laws.proofs.Entries.{list-five}
-use Rattle.listing.specs.Steps.{checkedOf}
+use Rattle.identifier_rules.specs.OwnList.{entryLimit, ownList}
+use Rattle.identifier_rules.specs.Ends.{endsOf, cutAt}
+use Rattle.identifier_laws.proofs.Ends.{cut-ends, spelled-ends, good-ends}
+use Rattle.identifier_laws.proofs.Entries.{list-five}
+use Rattle.ownlist_check.specs.Steps.{checkedOf}
 use Rattle.punycode_rules.specs.Labels.{doubleHyphen}
-use Rattle.authserv_rules.specs.Spelled.{spelledList, linesOf, amongSpelled}
-use Rattle.authserv_laws.proofs.OwnLists.{list-among}
-use Rattle.authserv_laws.proofs.Headlines.{list-plain}
+use Rattle.identifier_rules.specs.Spelled.{spelledList, linesOf, amongSpelled}
+use Rattle.identifier_laws.proofs.OwnLists.{list-among}
+use Rattle.identifier_laws.proofs.Headlines.{list-plain}
 use Rattle.strip_rules.specs.declared.Stripped.{Stripped}
 use Rattle.strip_rules.specs.Strip.{Answer, orRefusal, stripFields, strip}
 use Rattle.strip_rules.specs.Answers.{answerOf, leaves}
 use Rattle.strip_laws.proofs.Laws.{Listed}
 use Rattle.strip_laws.proofs.Alike.{same-stripped}
-use Rattle.cutting.proofs.Ends.{Answered, refused}
+use Rattle.strip_copy.proofs.Ends.{Answered, refused}
 
 module _ (list : List ℕ) where
   good-zero : Good ≡ checkedOf (ownList list) → ownList list .number ≡ 0

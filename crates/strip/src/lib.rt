@@ -10,17 +10,17 @@
 //   4  a 513th field: its start
 //   6  `out` is too short: the bytes needed
 // tried in this order. A refusal writes nothing and returns zero counts; bytes past those written stay unchanged.
-use answer_numbers::Number;
-use listing::Checked;
-use listing::Entries;
+use base_answers::Number;
+use ownlist_check::Checked;
+use ownlist_check::Entries;
 use strip_rules::Stripped;
 ghost use mathlib.Core.Path.{_≡_};
 ghost use Prim.Native.Nat.{_≤_};
 ghost use lib.ListN.{length};
-ghost use Rattle.authserv_rules.specs.OwnList.{entryLimit, ownList};
-ghost use Rattle.authserv_rules.specs.Ends.{endsOf};
-ghost use Rattle.authserv_rules.specs.Listed.{among};
-ghost use Rattle.authserv_rules.specs.Spelled.{linesOf, amongSpelled};
+ghost use Rattle.identifier_rules.specs.OwnList.{entryLimit, ownList};
+ghost use Rattle.identifier_rules.specs.Ends.{endsOf};
+ghost use Rattle.identifier_rules.specs.Listed.{among};
+ghost use Rattle.identifier_rules.specs.Spelled.{linesOf, amongSpelled};
 ghost use Rattle.strip_rules.specs.Strip.{stripFields, strip};
 ghost use Rattle.strip_rules.specs.Answers.{answerOf, leaves};
 
@@ -43,8 +43,8 @@ fn strip_lines(s: &[u8], own: &[u8], out: &mut [u8]) -> Stripped
     ensures { λ _. ⌜ now (out .exit) ≡ leaves (stripFields (now (s .entry)) (amongSpelled (linesOf (now (own .entry)))) (length (now (out .entry)))) (now (out .entry)) ⌝ }
 {
     let mut ends = [0usize; Entries::ENTRIES];
-    let n = line_ends::line_ends(own, &mut ends);
-    cutting::strip_by(s, own, &ends[..n], out)
+    let n = ownlist_lines::ends::line_ends(own, &mut ends);
+    strip_copy::strip_by(s, own, &ends[..n], out)
 }
 
 // Strips by a list that has to be spelled first.
@@ -52,8 +52,8 @@ fn strip_spelled(s: &[u8], list: &[u8], out: &mut [u8]) -> Stripped
     ensures { λ r. ⌜ r ≡ answerOf (stripFields (now (s .entry)) (among (ownList (now (list .entry)) .items)) (length (now (out .entry)))) ⌝ }
     ensures { λ _. ⌜ now (out .exit) ≡ leaves (stripFields (now (s .entry)) (among (ownList (now (list .entry)) .items)) (length (now (out .entry)))) (now (out .entry)) ⌝ }
 {
-    let mut own = spelled_room::spelled();
-    let n = spelled_lists::spell_list(list, &mut own);
+    let mut own = ownlist_spelled::room::spelled();
+    let n = ownlist_spelled::spell_list(list, &mut own);
     strip_lines(s, &own[..n], out)
 }
 
@@ -62,16 +62,16 @@ pub fn strip(s: &[u8], list: &[u8], out: &mut [u8]) -> Stripped
     ensures { λ r. ⌜ r ≡ answerOf (strip (now (s .entry)) (now (list .entry)) (length (now (out .entry)))) ⌝ }
     ensures { λ _. ⌜ now (out .exit) ≡ leaves (strip (now (s .entry)) (now (list .entry)) (length (now (out .entry)))) (now (out .entry)) ⌝ }
 {
-    if lexis::too_long(s) {
+    if lexis_space::too_long(s) {
         return refuse(Number::TOO_LONG, 0);
     }
-    match listing::check_list(list) {
+    match ownlist_check::check_list(list) {
         Checked::Bad { place } => {
             return refuse(Number::BAD_LIST, place);
         }
         Checked::Good => {}
     }
-    if hyphens::has_double_hyphen(list) {
+    if punycode_hyphens::has_double_hyphen(list) {
         return strip_spelled(s, list, out);
     }
     strip_lines(s, list, out)

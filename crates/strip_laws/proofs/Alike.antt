@@ -3,12 +3,12 @@ use Prim.Native.Nat.{ℕ, zero, suc}
 use mathlib.Core.Path.{_≡_, refl, sym, ap, _∙_}
 use mathlib.Core.Bool.{Bool, true, false, not, _&&_}
 use mathlib.Core.List.{List, [], _∷_}
-use Rattle.reading.specs.Texts.{bytes}
-use Rattle.reading.specs.Parsers.{Got, nothing, got}
-use Rattle.reading.specs.Walks.{Walked}
+use Rattle.base_readers.specs.Texts.{bytes}
+use Rattle.base_readers.specs.Parsers.{Got, nothing, got}
+use Rattle.base_readers.specs.Walks.{Walked}
 use Rattle.block_rules.specs.Fields.{Field, bodyOf, named, fields, select}
 use Rattle.block_laws.proofs.Fields.{select-yes, select-no}
-use Rattle.authserv_rules.specs.Identifier.{identifier}
+use Rattle.identifier_rules.specs.Identifier.{identifier}
 use Rattle.strip_rules.specs.Strip.{oursOrUnreadable, isRemoved, removedOf, keptOf, Answer, fitted, orRefusal, stripFields}
 
 same-select : (p q : Field → Bool) → ((f : Field) → p f ≡ q f) → (fs : List Field) → select p fs ≡ select q fs

@@ -5,16 +5,16 @@ use native.Mathlib.Omega.{arith}
 use mathlib.Core.Path.{_≡_, refl, sym, ap, _∙_}
 use mathlib.Core.Bool.{Bool, true, false, not, _&&_, _||_}
 use mathlib.Core.List.{List, [], _∷_, _++_, List·Memᴰ, List·Memᴰ·head, List·Memᴰ·tail}
-use Rattle.sequences.proofs.Booleans.{no-true, and-left, and-right}
+use Rattle.base_sequences.proofs.Booleans.{no-true, and-left, and-right}
 use lib.ListN.{length, drop}
-use Rattle.reading.specs.Texts.{bytes}
-use Rattle.reading.specs.Walks.{Walked}
-use Rattle.reading.specs.Parsers.{Got, nothing, got}
+use Rattle.base_readers.specs.Texts.{bytes}
+use Rattle.base_readers.specs.Walks.{Walked}
+use Rattle.base_readers.specs.Parsers.{Got, nothing, got}
 use Rattle.block_rules.specs.Fields.{Field, bodyOf, named, select, fields, bytesOf}
 use Rattle.block_laws.proofs.Fields.{select-yes, select-no, fields-fine}
-use Rattle.authserv_rules.specs.OwnList.{ownList}
-use Rattle.authserv_rules.specs.Identifier.{identifier, sameIdentifier}
-use Rattle.authserv_rules.specs.Listed.{among}
+use Rattle.identifier_rules.specs.OwnList.{ownList}
+use Rattle.identifier_rules.specs.Identifier.{identifier, sameIdentifier}
+use Rattle.identifier_rules.specs.Listed.{among}
 use Rattle.strip_rules.specs.Strip.{oursOrUnreadable, isRemoved, keptOf, strip}
 use Rattle.strip_rules.specs.Answers.{leaves}
 use Rattle.strip_laws.proofs.Laws.{Listed, strip-sound}

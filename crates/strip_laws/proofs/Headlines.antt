@@ -7,13 +7,13 @@ use mathlib.Core.Bool.{Bool, true, false, not, _||_}
 use mathlib.Core.List.{List, [], _∷_, _++_}
 use lib.Dec.{ltb}
 use lib.ListN.{length}
-use Rattle.reading.specs.Walks.{Walked}
+use Rattle.base_readers.specs.Walks.{Walked}
 use Rattle.lexis_rules.specs.Limits.{byteLimit}
 use Rattle.block_rules.specs.Fields.{Field, fields, bytesOf}
-use Rattle.authserv_rules.specs.OwnList.{ownList}
+use Rattle.identifier_rules.specs.OwnList.{ownList}
 use Rattle.block_laws.proofs.Fields.{fields-fine, select-fields, select-sum, select-again, select-none}
-use Rattle.authserv_rules.specs.Identifier.{sameIdentifier}
-use Rattle.authserv_rules.specs.Listed.{among}
+use Rattle.identifier_rules.specs.Identifier.{sameIdentifier}
+use Rattle.identifier_rules.specs.Listed.{among}
 use Rattle.strip_rules.specs.Strip.{isRemoved, removedOf, keptOf, Answer, refuse, fitted, orRefusal, stripFields, strip}
 use Rattle.strip_rules.specs.Answers.{leaves}
 use Rattle.strip_laws.proofs.Laws.{Listed, strip-to, strip-is, strip-sound}

@@ -4,10 +4,10 @@ use Prim.Native.Nat.{ℕ}
 use mathlib.Core.Path.{_≡_, refl}
 use mathlib.Core.List.{List, [], _∷_, _++_, map}
 use lib.ListN.{length}
-use Rattle.reading.specs.Texts.{bytes}
-use Rattle.reading.proofs.Cases.{case, Says}
+use Rattle.base_readers.specs.Texts.{bytes}
+use Rattle.base_readers.proofs.Cases.{case, Says}
 use Rattle.block_rules.proofs.Examples as block
-use Rattle.authserv_rules.proofs.Examples as authserv
+use Rattle.identifier_rules.proofs.Examples as authserv
 use Rattle.strip_rules.specs.Strip.{oursOrUnreadable, isRemoved, Answer, fitted, stripFields, strip}
 use Rattle.strip_rules.specs.Answers.{answerOf, leaves}
 

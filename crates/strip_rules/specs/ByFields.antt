@@ -4,11 +4,11 @@ use Prim.Native.Nat.{ℕ}
 use mathlib.Core.Path.{_≡_}
 use mathlib.Core.Bool.{true}
 use mathlib.Core.List.{List, [], _∷_, List·Memᴰ}
-use Rattle.reading.specs.Texts.{bytes}
-use Rattle.reading.specs.Parsers.{nothing, got}
+use Rattle.base_readers.specs.Texts.{bytes}
+use Rattle.base_readers.specs.Parsers.{nothing, got}
 use Rattle.lexis_rules.specs.Bytes.{alike}
 use Rattle.block_rules.specs.Fields.{Field, nameOf, bodyOf}
-use Rattle.authserv_rules.specs.Identifier.{identifier, sameIdentifier}
+use Rattle.identifier_rules.specs.Identifier.{identifier, sameIdentifier}
 
 -- the identifier can't be read, or equals an entry of the list
 pub data OursOrUnreadable (own : List (List ℕ)) (body : List ℕ) : Type 0 where

@@ -4,14 +4,14 @@ use mathlib.Core.Bool.{Bool, true, false, not, _&&_}
 use mathlib.Core.List.{List, []}
 use lib.Dec.{ltb}
 use lib.ListN.{length}
-use Rattle.reading.specs.Texts.{bytes}
-use Rattle.reading.specs.Parsers.{nothing, got}
-use Rattle.reading.specs.Walks.{Walked}
+use Rattle.base_readers.specs.Texts.{bytes}
+use Rattle.base_readers.specs.Parsers.{nothing, got}
+use Rattle.base_readers.specs.Walks.{Walked}
 use Rattle.lexis_rules.specs.Limits.{byteLimit}
 use Rattle.block_rules.specs.Fields.{Field, bodyOf, named, fields, bytesOf, select}
-use Rattle.authserv_rules.specs.OwnList.{ownList}
-use Rattle.authserv_rules.specs.Identifier.{identifier}
-use Rattle.authserv_rules.specs.Listed.{among}
+use Rattle.identifier_rules.specs.OwnList.{ownList}
+use Rattle.identifier_rules.specs.Identifier.{identifier}
+use Rattle.identifier_rules.specs.Listed.{among}
 
 -- whose identifier is unreadable or listed. The rest of the body doesn't matter
 unfoldable pub oursOrUnreadable : (List ℕ → Bool) → List ℕ → Bool

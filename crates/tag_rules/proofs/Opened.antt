@@ -1,6 +1,6 @@
 -- Every definition of a tag list opened at once: `unfolding opened` lets a proof compute with all of them. Assumes nothing.
-use Rattle.reading.specs.Texts.{starts}
-use Rattle.reading.specs.Parsers.{after, _>>=_, give, when, end, byte, taken, skipping, text, either, cons, several}
+use Rattle.base_readers.specs.Texts.{starts}
+use Rattle.base_readers.specs.Parsers.{after, _>>=_, give, when, end, byte, taken, skipping, text, either, cons, several}
 use Rattle.lexis_rules.proofs.Examples as lexis
 use Rattle.tag_rules.specs.Tags.{inTagName, tagName, white, solid, trimmed, tag, tags, named, unrepeated, needs, valueNamed}
 

@@ -5,9 +5,9 @@ use mathlib.Core.Path.{_≡_, refl}
 use mathlib.Core.Bool.{Bool, true, false}
 use mathlib.Core.List.{List, [], _∷_, _++_, map}
 use lib.Dec.{eqb}
-use Rattle.reading.specs.Texts.{bytes}
-use Rattle.reading.specs.Parsers.{Got, nothing, got}
-use Rattle.reading.proofs.Cases.{case, Says}
+use Rattle.base_readers.specs.Texts.{bytes}
+use Rattle.base_readers.specs.Parsers.{Got, nothing, got}
+use Rattle.base_readers.proofs.Cases.{case, Says}
 use Rattle.tag_rules.specs.Tags.{tagName, tagValue, white, trimmed, Tag, tag, tags, named, unrepeated, needs, valueNamed}
 use Rattle.tag_rules.proofs.Opened.{opened}
 

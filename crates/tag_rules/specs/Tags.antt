@@ -5,9 +5,9 @@ use mathlib.Core.Bool.{Bool, true, false, not, cond, _&&_, _||_}
 use mathlib.Core.List.{List, [], _∷_}
 use lib.Dec.{eqb}
 use lib.ListN.{getD, take, drop}
-use Rattle.reading.specs.Texts.{bytes, same, oneOf}
-use Rattle.reading.specs.Readers.{Reader, run, many}
-use Rattle.reading.specs.Parsers.{Parser, _>>=_, _>>_, give, end, byte, taken, skipping, text, either, several}
+use Rattle.base_readers.specs.Texts.{bytes, same, oneOf}
+use Rattle.base_readers.specs.Readers.{Reader, run, many}
+use Rattle.base_readers.specs.Parsers.{Parser, _>>=_, _>>_, give, end, byte, taken, skipping, text, either, several}
 use Rattle.lexis_rules.specs.declared.Class.the-variants as class
 use Rattle.lexis_rules.specs.Bytes.{letter, inClass}
 use Rattle.lexis_rules.specs.Pieces.{item, bareSpace}

@@ -1,5 +1,5 @@
 -- `block::label_end` meets its contract: the name, the blanks after it, and a colon. Assumes nothing.
-use Rattle.reading.proofs.Loops.{there-fits}
+use Rattle.base_readers.proofs.Loops.{there-fits}
 use Rattle.block.proofs.Lines.{label-none, label-no, label-yes}
 use borrow.Author.Needs.{needs}
 use Rattle.block.proofs.label_end.Statement.{statement}

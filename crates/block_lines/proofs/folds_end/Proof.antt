@@ -2,9 +2,9 @@
 use Prim.Native.Nat.{_-_}
 use borrow.Author.Needs.{needs}
 use lib.ListN.{length}
-use Rattle.reading.specs.Readers.{many}
-use Rattle.reading.specs.Places.{Reaches}
-use Rattle.reading.proofs.Loops.{reaches-start}
+use Rattle.base_readers.specs.Readers.{many}
+use Rattle.base_readers.specs.Places.{Reaches}
+use Rattle.base_readers.proofs.Loops.{reaches-start}
 use Rattle.block_rules.specs.Fields.{folded}
 use Rattle.block_lines.proofs.Lines.{folds-on, folds-off, folds-less}
 use Rattle.block_lines.proofs.folds_end.Statement.{statement}

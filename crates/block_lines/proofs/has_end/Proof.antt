@@ -4,9 +4,9 @@ use native.Mathlib.Omega.{arith}
 use mathlib.Core.Path.{_≡_, sym}
 use mathlib.Core.Bool.{false}
 use borrow.Author.Needs.{needs}
-use Rattle.sequences.proofs.Booleans.{no-true}
-use Rattle.reading.specs.Places.{Reaches}
-use Rattle.reading.proofs.Loops.{piece-none, piece-more, piece-all}
+use Rattle.base_sequences.proofs.Booleans.{no-true}
+use Rattle.base_readers.specs.Places.{Reaches}
+use Rattle.base_readers.proofs.Loops.{piece-none, piece-more, piece-all}
 use Rattle.block_rules.specs.Fields.{lineText}
 use Rattle.block_lines.proofs.has_end.Statement.{statement}
 use Rattle.block_lines.proofs.has_end.Tie as tie

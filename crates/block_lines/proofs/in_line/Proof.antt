@@ -1,7 +1,7 @@
 -- `block_lines::in_line` meets its contract: by the two tests. Assumes nothing.
 use borrow.Author.Tests.{ne-eqb}
-use Rattle.sequences.proofs.Booleans.{or-none}
-use Rattle.reading.specs.Texts.{oneOf}
+use Rattle.base_sequences.proofs.Booleans.{or-none}
+use Rattle.base_readers.specs.Texts.{oneOf}
 use Rattle.block_rules.specs.Fields.{inLine}
 use Rattle.block_lines.proofs.in_line.Statement.{statement}
 use Rattle.block_lines.proofs.in_line.Tie as tie

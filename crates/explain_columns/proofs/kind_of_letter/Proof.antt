@@ -2,7 +2,7 @@
 use Prim.Native.Nat.{ℕ}
 use mathlib.Core.Path.{sym, ap}
 use mathlib.Core.List.{[], _∷_}
-use Rattle.reading.specs.Texts.{same}
+use Rattle.base_readers.specs.Texts.{same}
 use Rattle.explain_rules.specs.Explained.{kindOf}
 use Rattle.explain_columns.proofs.Columns.{letter-other}
 use Rattle.explain_columns.proofs.kind_of_letter.Statement.{statement}

@@ -4,7 +4,7 @@ use native.Mathlib.Omega.{arith}
 use mathlib.Core.List.{map}
 use lib.ListN.{length, drop}
 use borrow.Author.Needs.{needs}
-use Rattle.sequences.proofs.Clips.{Going}
+use Rattle.base_sequences.proofs.Clips.{Going}
 use Rattle.explain_rules.specs.Explained.{shown}
 use Rattle.explain_columns.proofs.Columns.{shown-start, shown-more, shown-done}
 use Rattle.explain_columns.proofs.put_shown.Statement.{statement}

@@ -3,9 +3,9 @@ use Prim.Native.Nat.{_-_}
 use native.Mathlib.Omega.{arith}
 use borrow.Author.Needs.{needs}
 use lib.ListN.{length}
-use Rattle.reading.specs.Readers.{run}
-use Rattle.reading.specs.Places.{Reaches}
-use Rattle.reading.proofs.Loops.{reaches-start, run-out}
+use Rattle.base_readers.specs.Readers.{run}
+use Rattle.base_readers.specs.Places.{Reaches}
+use Rattle.base_readers.proofs.Loops.{reaches-start, run-out}
 use Rattle.explain_columns.specs.Until.{except}
 use Rattle.explain_columns.proofs.Columns.{until-here, until-on}
 use Rattle.explain_columns.proofs.until.Statement.{statement}

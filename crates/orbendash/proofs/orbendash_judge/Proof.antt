@@ -1,5 +1,5 @@
 -- `orbendash::orbendash_judge` meets its contract: the answer is that of `arc::judge`, field by field. Assumes nothing.
-use Rattle.judge_faces.proofs.Returned.{judge-faced}
+use Rattle.host_structs.proofs.JudgeReturned.{judge-faced}
 use borrow.Author.Needs.{needs}
 use Rattle.orbendash.proofs.orbendash_judge.Statement.{statement}
 use Rattle.orbendash.proofs.orbendash_judge.Tie as tie

@@ -1,7 +1,7 @@
--- `orbendash::orbendash_next_field` meets its contract: the step of `fields::field_from`, put into the struct for hosts. Assumes nothing.
+-- `orbendash::orbendash_next_field` meets its contract: the step of `block_walk::field_from`, put into the struct for hosts. Assumes nothing.
 use mathlib.Core.Path.{ap, _∙_}
 use borrow.Author.Needs.{needs}
-use Rattle.faces.specs.Faces.{nextFace}
+use Rattle.host_structs.specs.Faces.{nextFace}
 use Rattle.orbendash.proofs.orbendash_next_field.Statement.{statement}
 use Rattle.orbendash.proofs.orbendash_next_field.Tie as tie
 

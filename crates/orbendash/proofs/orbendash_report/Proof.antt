@@ -1,5 +1,5 @@
 -- `orbendash::orbendash_report` meets its contract: the answer is that of `report::report`, field by field. Assumes nothing.
-use Rattle.faces.proofs.Returned.{report-faced}
+use Rattle.host_structs.proofs.Returned.{report-faced}
 use borrow.Author.Needs.{needs}
 use Rattle.orbendash.proofs.orbendash_report.Statement.{statement}
 use Rattle.orbendash.proofs.orbendash_report.Tie as tie

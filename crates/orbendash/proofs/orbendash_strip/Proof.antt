@@ -1,5 +1,5 @@
 -- `orbendash::orbendash_strip` meets its contract: the answer is that of `strip::strip`, field by field. Assumes nothing.
-use Rattle.faces.proofs.Returned.{strip-faced}
+use Rattle.host_structs.proofs.Returned.{strip-faced}
 use borrow.Author.Needs.{needs}
 use Rattle.orbendash.proofs.orbendash_strip.Statement.{statement}
 use Rattle.orbendash.proofs.orbendash_strip.Tie as tie

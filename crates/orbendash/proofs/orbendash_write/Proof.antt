@@ -1,5 +1,5 @@
--- `orbendash::orbendash_write` meets its contract: the answer is that of `writing::write`, field by field. Assumes nothing.
-use Rattle.faces.proofs.Returned.{write-faced}
+-- `orbendash::orbendash_write` meets its contract: the answer is that of `write::write`, field by field. Assumes nothing.
+use Rattle.host_structs.proofs.Returned.{write-faced}
 use borrow.Author.Needs.{needs}
 use Rattle.orbendash.proofs.orbendash_write.Statement.{statement}
 use Rattle.orbendash.proofs.orbendash_write.Tie as tie

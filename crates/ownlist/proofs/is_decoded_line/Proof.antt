@@ -2,7 +2,7 @@
 use native.Mathlib.Omega.{arith}
 use mathlib.Core.Path.{sym}
 use lib.Seq.{length-take-le}
-use Rattle.spelled_lists.proofs.Spelt.{spelt}
+use Rattle.ownlist_spelled.proofs.Spelt.{spelt}
 use Rattle.ownlist.proofs.Texts.{spelt-long, spelt-line}
 use borrow.Author.Needs.{needs}
 use Rattle.ownlist.proofs.is_decoded_line.Statement.{statement}

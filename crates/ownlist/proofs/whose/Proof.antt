@@ -1,7 +1,7 @@
 -- `ownlist::whose` meets its contract: the list is spelled into a buffer that holds the longest, and asked there. Assumes nothing.
 use mathlib.Core.Path.{sym}
 use lib.Seq.{length-take-le}
-use Rattle.spelled_room.proofs.Fits.{fits-room, fits-own}
+use Rattle.ownlist_spelled.proofs.Fits.{fits-room, fits-own}
 use Rattle.ownlist.proofs.Owners.{whose-list}
 use borrow.Author.Needs.{needs}
 use Rattle.ownlist.proofs.whose.Statement.{statement}

@@ -3,9 +3,9 @@ use Prim.Native.Nat.{_≤_}
 use native.Mathlib.Omega.{arith}
 use mathlib.Core.Path.{_≡_, sym, _∙_}
 use lib.ListN.{length}
-use Rattle.authserv.specs.declared.Identifier.the-variants.{Readable}
-use Rattle.authserv.specs.Answers.{identifierAt}
-use Rattle.authserv.proofs.Identifiers.{identifier-inside}
+use Rattle.identifier.specs.declared.Identifier.the-variants.{Readable}
+use Rattle.identifier.specs.Answers.{identifierAt}
+use Rattle.identifier.proofs.Identifiers.{identifier-inside}
 use Rattle.ownlist.proofs.Owners.{whose-none, whose-quoted, whose-token}
 use borrow.Author.Needs.{needs}
 use Rattle.ownlist.proofs.whose_among.Statement.{statement}

@@ -6,7 +6,7 @@ use mathlib.Core.Path.{refl, sym, _∙_}
 use borrow.Author.Needs.{needs}
 use lib.ListN.{length}
 use lib.Seq.{length-take-le}
-use Rattle.sequences.proofs.Splices.{put-long}
+use Rattle.base_sequences.proofs.Splices.{put-long}
 use Rattle.ownlist.proofs.Owners.{Asking, ask-start, ask-all, ask-ours, ask-unreadable, ask-more, last-inside}
 use Rattle.ownlist.proofs.whose_spelled.Statement.{statement}
 use Rattle.ownlist.proofs.whose_spelled.Tie as tie

@@ -1,9 +1,9 @@
 -- `punycode::decode` meets its contract: what the decoder tells is the answer; a label of so few bytes has no more code points than
 -- there is room for. Assumes nothing.
 use native.Mathlib.Omega.{arith}
-use Rattle.code_points.specs.declared.Points.the-variants.{Read}
-use Rattle.code_points.specs.Answers.{Tells}
-use Rattle.code_points.proofs.Headlines.{tells}
+use Rattle.punycode_decode.specs.declared.Points.the-variants.{Read}
+use Rattle.punycode_decode.specs.Answers.{Tells}
+use Rattle.punycode_decode.proofs.Headlines.{tells}
 use Rattle.punycode.proofs.Labelling.{told-points}
 use Rattle.punycode.proofs.Answering.{decode-long, decode-failed, decode-never, decode-text}
 use borrow.Author.Needs.{needs}

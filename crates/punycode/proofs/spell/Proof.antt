@@ -2,7 +2,7 @@
 use native.Mathlib.Omega.{arith}
 use mathlib.Core.Path.{sym}
 use lib.Seq.{length-take-le}
-use Rattle.sequences.proofs.Splices.{put-long}
+use Rattle.base_sequences.proofs.Splices.{put-long}
 use Rattle.punycode.proofs.Answering.{spell-over, spell-fits}
 use borrow.Author.Needs.{needs}
 use Rattle.punycode.proofs.spell.Statement.{statement}

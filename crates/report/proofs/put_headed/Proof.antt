@@ -1,7 +1,7 @@
 -- `report::put_headed` meets its contract: header version 1 or none, or another one, by what is found. Assumes nothing.
 use mathlib.Core.Path.{_≡_, sym, _∙_}
-use Rattle.header_versions.specs.declared.Version.the-variants.{Absent, Stated}
-use Rattle.header_versions.specs.Answers.{versionAt}
+use Rattle.identifier.specs.declared.version.Version.the-variants.{Absent, Stated}
+use Rattle.identifier.specs.VersionAnswers.{versionAt}
 use Rattle.report.proofs.Heads.{one-stated, other-room, other-stated, absent-stated}
 use borrow.Author.Needs.{needs}
 use Rattle.report.proofs.put_headed.Statement.{statement}

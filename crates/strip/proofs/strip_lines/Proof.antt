@@ -3,7 +3,7 @@ use native.Mathlib.Omega.{arith}
 use mathlib.Core.Path.{sym}
 use lib.Seq.{length-take-le}
 use borrow.Author.Needs.{needs}
-use Rattle.sequences.proofs.Splices.{put-long}
+use Rattle.base_sequences.proofs.Splices.{put-long}
 use Rattle.strip.proofs.Ends.{answer-lines}
 use Rattle.strip.proofs.strip_lines.Statement.{statement}
 use Rattle.strip.proofs.strip_lines.Tie as tie

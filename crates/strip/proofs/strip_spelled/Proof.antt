@@ -1,7 +1,7 @@
 -- `strip::strip_spelled` meets its contract: the list is spelled into a buffer that holds the longest. Assumes nothing.
 use mathlib.Core.Path.{sym}
 use lib.Seq.{length-take-le}
-use Rattle.spelled_room.proofs.Fits.{fits-room, fits-own}
+use Rattle.ownlist_spelled.proofs.Fits.{fits-room, fits-own}
 use Rattle.strip.proofs.Ends.{answer-spelled, spelled-room}
 use borrow.Author.Needs.{needs}
 use Rattle.strip.proofs.strip_spelled.Statement.{statement}

@@ -3,9 +3,9 @@ use Prim.Native.Nat.{_-_}
 use native.Mathlib.Omega.{arith}
 use borrow.Author.Needs.{needs}
 use lib.ListN.{length}
-use Rattle.reading.specs.Places.{Reaches}
-use Rattle.reading.specs.Readers.{run}
-use Rattle.reading.proofs.Loops.{reaches-start, run-out}
+use Rattle.base_readers.specs.Places.{Reaches}
+use Rattle.base_readers.specs.Readers.{run}
+use Rattle.base_readers.proofs.Loops.{reaches-start, run-out}
 use Rattle.punycode_rules.specs.Labels.{inLabel}
 use Rattle.punycode_laws.proofs.Spelling.{label-stop, label-go}
 use Rattle.punycode.proofs.labels.label_end.Statement.{statement}

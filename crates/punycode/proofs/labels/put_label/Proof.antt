@@ -1,9 +1,9 @@
 -- `punycode::labels::put_label` meets its contract: each answer of the decoder is a case of the definition. Assumes nothing.
 use Prim.Native.Nat.{_-_}
 use lib.ListN.{length, take, drop}
-use Rattle.code_points.specs.declared.Points.the-variants.{Read}
-use Rattle.code_points.specs.Answers.{Tells}
-use Rattle.code_points.proofs.Headlines.{tells}
+use Rattle.punycode_decode.specs.declared.Points.the-variants.{Read}
+use Rattle.punycode_decode.specs.Answers.{Tells}
+use Rattle.punycode_decode.proofs.Headlines.{tells}
 use native.Mathlib.Omega.{arith}
 use mathlib.Core.Path.{sym, _∙_}
 use Rattle.punycode.proofs.Labelling.{told, told-points, label-plain, label-failed, label-text, label-long}

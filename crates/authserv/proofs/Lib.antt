@@ -1,3 +1,0 @@
-pub mod Tokens
-pub mod Identifiers
-pub mod Headlines

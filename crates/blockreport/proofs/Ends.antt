@@ -1,0 +1,162 @@
+-- The answers of the report of a block, one law for each way out of the code. Assumes nothing.
+use Prim.Native.Nat.{ℕ, zero, suc, _≤_, _<_}
+use native.Mathlib.Omega.{arith}
+use mathlib.Core.Path.{_≡_, refl, sym, ap, _∙_}
+use mathlib.Core.Bool.{Bool, true, false}
+use mathlib.Core.List.{List}
+use borrow.Author.Tests.{lt-ltb, le-ltb, ltb-false}
+use lib.Dec.{ltb}
+use lib.ListN.{length, take}
+use lib.Seq.{sets, length-sets}
+use Rattle.base_sequences.specs.Stored.{Put}
+use Rattle.base_sequences.proofs.Splices.{sets-front, put-front}
+use Rattle.base_readers.specs.Parsers.{Got}
+use Rattle.lexis_rules.specs.Limits.{byteLimit}
+use Rattle.ownlist_check.specs.declared.Checked.the-variants.{Good, Bad}
+use Rattle.ownlist_check.specs.Steps.{checkedOf, numberOf, placeOf}
+use Rattle.ownlist_check.proofs.Headlines.{check-number, check-place}
+use Rattle.block_rules.specs.Fields.{fields}
+use Rattle.block_laws.proofs.Fields.{fields-place}
+use Rattle.punycode_rules.specs.Labels.{doubleHyphen}
+use Rattle.identifier_rules.specs.declared.Own.{Own}
+use Rattle.identifier_rules.specs.OwnList.{ownList}
+use Rattle.identifier_rules.specs.Listed.{ownOf}
+use Rattle.identifier_rules.specs.Spelled.{spelledList, linesOf, ownOfSpelled}
+use Rattle.ownlist_spelled.proofs.Fits.{fits-room}
+use Rattle.identifier_laws.proofs.Headlines.{list-own, list-plain}
+use Rattle.identifier_laws.proofs.OwnLists.{list-length}
+use Rattle.blockreport_rules.specs.declared.BlockReported.{BlockReported}
+use Rattle.blockreport_rules.specs.Reports.{Answer, refuse, fitted, orRefusal, reportFields, reports}
+use Rattle.blockreport_rules.specs.Answers.{answerOf, leaves}
+use Rattle.blockreport_laws.proofs.Whose.{same-reported}
+use Rattle.text_first_pass.specs.declared.Copy.{Copy}
+use Rattle.text_first_pass.specs.declared.Copy.the-variants.{Short, Again, Done}
+use Rattle.text_first_pass.specs.Copies.{copyOf, copyLeaves}
+use Rattle.text_first_pass.proofs.Copying.{when-short, when-again, when-done}
+use Rattle.blockreport.specs.Internal.{textBefore, FieldsPut}
+
+-- an answer, and what it leaves
+abbrev pub Answered : Answer → List ℕ → List ℕ → BlockReported → Type 0
+Answered a old new r = (r ≡ answerOf a) × (new ≡ leaves a old)
+
+refused : (a : Answer) (old : List ℕ) (r : BlockReported) (n p : ℕ) → r ≡ record { number = n; place = p; written = 0 } → a ≡ refuse n p → Answered a old old r
+refused a old r n p e q = (rw q e, rw q)
+
+-- where the same answer is meant
+meant : (a b : Answer) (old new : List ℕ) (r : BlockReported) → a ≡ b → Answered a old new r → Answered b old new r
+meant a b old new r e h = (h .0 ∙ ap answerOf e, h .1 ∙ ap (λ (x : Answer). leaves x old) e)
+
+-- ==== behind the list: m is what the first pass answers, which runs on a buffer of its own
+
+-- a text that was written to a buffer with room for all of it, copied to another one
+copied : (s : List ℕ) (whose : Got (List ℕ) → Own) (old first new : List ℕ) (m : BlockReported) → FieldsPut s whose first new m → m .written ≤ length first
+    → (out : List ℕ) → out ≡ sets old 0 (take (m .written) new) → FieldsPut s whose old out m
+copied s whose old first new m k h out p =
+    let text = textBefore s whose in
+    let f : length text ≤ length first = omega (arith, h, k .written) in
+    let t : take (m .written) new ≡ text = put-front {old = first} {text = text} (record { count = k .written; bytes = k .bytes f }) h in
+    record {
+      number = k .number;
+      place = k .place;
+      written = k .written;
+      long = ap length p ∙ length-sets old 0 (take (m .written) new);
+      bytes = λ l. p ∙ ap (sets old 0) t;
+    }
+
+module _ (s : List ℕ) (whose : Got (List ℕ) → Own) (old : List ℕ) (r m : BlockReported) (first new : List ℕ) (k : FieldsPut s whose first new m) where
+  pub answer-2-4 : (m .number ≡ 0 → ⊥) → r ≡ record { number = m .number; place = m .place; written = 0 } → Answered (reportFields s whose (length old)) old old r
+  unfolding reportFields
+  answer-2-4 ne e = go (m .number) refl
+    where
+      go : (n : ℕ) → m .number ≡ n → Answered (reportFields s whose (length old)) old old r
+      go zero z = absurd (ne z)
+      go (suc n) z =
+          let f : fields s .number ≡ suc n = sym (k .number) ∙ z in
+          refused (reportFields s whose (length old)) old r (m .number) (m .place) e (rw (reportFields, orRefusal, f, z, k .place))
+
+  module _ (z : m .number ≡ 0) where
+    sound : fields s .number ≡ 0
+    sound = sym (k .number) ∙ z
+
+    -- it is written over the front
+    told : m .written ≤ length old → (r : BlockReported) (out : List ℕ) → FieldsPut s whose old out r → Answered (reportFields s whose (length old)) old out r
+    unfolding reportFields fitted
+    told l r out d =
+        let fits : length (textBefore s whose) ≤ length old = rw (k .written) at l in
+        let t : ltb (length old) (length (textBefore s whose)) ≡ false = le-ltb _ _ fits in
+        let is : reportFields s whose (length old) ≡ record { number = 0; place = 0; written = textBefore s whose } = rw (reportFields, orRefusal, sound, fitted, t) in
+        (rw is (same r _ _ _ (d .number ∙ sound) (d .place ∙ fields-place s sound) (d .written)), rw is (d .bytes fits ∙ sets-front old (textBefore s whose) fits))
+      where
+        same : (r : BlockReported) (n p w : ℕ) → r .number ≡ n → r .place ≡ p → r .written ≡ w → r ≡ record { number = n; place = p; written = w }
+        same r n p w e₀ e₁ e₂ = rw (← e₀, ← e₁, ← e₂)
+
+    -- c is what became of what the first pass wrote, and `lent` what the lent buffer holds then
+    module _ (lent : List ℕ) (c : Copy) (i : c ≡ copyOf (length new) (m .written) (length old)) (v : lent ≡ copyLeaves c new (m .written) old) where
+      pub answer-6 : c ≡ Short → r ≡ record { number = 6; place = m .written; written = 0 } → Answered (reportFields s whose (length old)) old lent r
+      unfolding reportFields fitted
+      answer-6 q e =
+          let w = when-short new (m .written) old lent c i v q in
+          let t : ltb (length old) (length (textBefore s whose)) ≡ true = lt-ltb _ _ (rw (k .written) at (w .more)) in
+          rw (w .same) (refused (reportFields s whose (length old)) old r 6 (m .written) e (rw (reportFields, orRefusal, sound, fitted, t, k .written)))
+
+      -- it was copied from the first pass's buffer
+      pub answer-copied : c ≡ Done → Answered (reportFields s whose (length old)) old lent m
+      answer-copied q =
+          let w = when-done new (m .written) old lent c i v q in
+          told (w .fits) m lent (copied s whose old first new m k (omega (arith, w .whole, k .long)) lent (w .text))
+
+      -- it is written by a second pass
+      pub answer-written : c ≡ Again → (out : List ℕ) → FieldsPut s whose lent out r → Answered (reportFields s whose (length old)) old out r
+      answer-written q out d = let w = when-again new (m .written) old lent c i v q in told (w .fits) r out (rw (w .same) at d)
+
+-- by the list as it was spelled into a buffer that holds the longest
+module _ (list first own : List ℕ) (n : ℕ) (w : Put first 0 (spelledList (ownList list .items)) own n) (k : 65344 ≡ length first) where
+  pub answer-spelled : (s old new : List ℕ) (r : BlockReported) → Answered (reportFields s (ownOfSpelled (linesOf (take n own))) (length old)) old new r
+      → Answered (reportFields s (ownOf (ownList list .items)) (length old)) old new r
+  answer-spelled s old new r a =
+      let f : take n own ≡ spelledList (ownList list .items) = put-front w (fits-room list first own n w k) in
+      let e : reportFields s (ownOfSpelled (linesOf (take n own))) (length old) ≡ reportFields s (ownOf (ownList list .items)) (length old) =
+      rw f (same-reported (ownOfSpelled (linesOf (spelledList (ownList list .items)))) (ownOf (ownList list .items)) (list-own list) s (length old)) in
+      meant _ _ old new r e a
+
+-- ==== the whole
+
+-- where the first test does not refuse, the block is within the limit
+pub within-limit : (s : List ℕ) (big : Bool) → big ≡ ltb byteLimit (length s) → big ≡ false → length s ≤ byteLimit
+within-limit s big b h = ltb-false byteLimit (length s) (sym b ∙ h)
+
+module _ (s list old : List ℕ) (r : BlockReported) (big : Bool) (b : big ≡ ltb byteLimit (length s)) where
+  pub answer-1 : big ≡ true → r ≡ record { number = 1; place = 0; written = 0 } → Answered (reports s list (length old)) old old r
+  unfolding reports
+  answer-1 h e = refused (reports s list (length old)) old r 1 0 e (let t : ltb byteLimit (length s) ≡ true = sym b ∙ h in rw (reports, t))
+
+  module _ (h : big ≡ false) where
+    small : ltb byteLimit (length s) ≡ false
+    small = sym b ∙ h
+
+    pub answer-5 : (p : ℕ) → Bad p ≡ checkedOf (ownList list) → r ≡ record { number = 5; place = p; written = 0 } → Answered (reports s list (length old)) old old r
+    unfolding reports
+    answer-5 p q e =
+        let five : ownList list .number ≡ 5 = sym (check-number list) ∙ ap numberOf (sym q) in
+        let at : ownList list .place ≡ p = sym (check-place list five) ∙ ap placeOf (sym q) in
+        refused (reports s list (length old)) old r 5 p e (rw (reports, small, orRefusal, five, at))
+
+    module _ (g : Good ≡ checkedOf (ownList list)) (new : List ℕ) where
+      good : ownList list .number ≡ 0
+      good = sym (check-number list) ∙ ap numberOf (sym g)
+
+      behind : reportFields s (ownOf (ownList list .items)) (length old) ≡ reports s list (length old)
+      unfolding reports
+      behind = rw (reports, small, orRefusal, good)
+
+      pub answer-listed : Answered (reportFields s (ownOf (ownList list .items)) (length old)) old new r → Answered (reports s list (length old)) old new r
+      answer-listed a = meant _ _ old new r behind a
+
+      -- a list without two hyphens in a row is compared as it stands
+      pub answer-plain : (t : Bool) → t ≡ doubleHyphen list → t ≡ false → Answered (reportFields s (ownOfSpelled (linesOf list)) (length old)) old new r
+          → Answered (reports s list (length old)) old new r
+      answer-plain t e z a =
+          let l : spelledList (ownList list .items) ≡ list = list-plain list good (sym e ∙ z) in
+          let q : reportFields s (ownOfSpelled (linesOf list)) (length old) ≡ reportFields s (ownOf (ownList list .items)) (length old) =
+          same-reported (ownOfSpelled (linesOf list)) (ownOf (ownList list .items)) (λ i. rw l at (list-own list i)) s (length old) in
+          answer-listed (meant _ _ old new r q a)

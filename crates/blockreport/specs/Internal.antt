@@ -1,0 +1,23 @@
+-- What private functions say: no public contract cites these. Assumes nothing: these are definitions.
+use Prim.Native.Nat.{ℕ, _≤_}
+use mathlib.Core.Path.{_≡_}
+use mathlib.Core.List.{List}
+use lib.ListN.{length}
+use lib.Seq.{sets}
+use Rattle.base_readers.specs.Parsers.{Got}
+use Rattle.block_rules.specs.Fields.{fields}
+use Rattle.identifier_rules.specs.declared.Own.{Own}
+use Rattle.blockreport_rules.specs.declared.BlockReported.{BlockReported}
+use Rattle.blockreport_rules.specs.Reports.{additions}
+
+-- what the fields up to the first refusal add
+abbrev pub textBefore : List ℕ → (Got (List ℕ) → Own) → List ℕ
+textBefore s whose = additions whose 1 (fields s .items)
+
+-- it is written where it fits, and the refusal and its length are returned
+pub record FieldsPut (s : List ℕ) (whose : Got (List ℕ) → Own) (old new : List ℕ) (r : BlockReported) : Type 0 where
+  pub number : r .number ≡ fields s .number
+  pub place : r .place ≡ fields s .place
+  pub written : r .written ≡ length (textBefore s whose)
+  pub long : length new ≡ length old
+  pub bytes : length (textBefore s whose) ≤ length old → new ≡ sets old 0 (textBefore s whose)

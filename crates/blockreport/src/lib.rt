@@ -1,0 +1,136 @@
+// The report of a header block: what each of its Authentication-Results fields says.
+//
+// `reports(block, list, out)` writes for each field named Authentication-Results, in the block's order, the line
+//   field <tab> its number among all fields, from 1 <tab> own, other or unreadable <tab> answer number <tab> ignored results
+// and then the report of its body (see `report::report`), which is empty where its number is 7 or 9. A field is our own where its identifier equals
+// an entry of the list. It answers
+//   0  done: the bytes written, place 0
+//   1  the block has more than 65,536 bytes: place 0
+//   5  a bad list: the start of its first bad entry
+//   2  a CR without LF, an LF without CR, or a last line without CRLF: that byte, or the block length
+//   3  an empty line, a first line starting with space or tab, or a field that lacks name or colon: the start of the line
+//   4  a 513th field: its start
+//   6  `out` is too short: the bytes needed
+// tried in this order. A refusal writes nothing and returns 0 bytes written; bytes past those written stay unchanged.
+use base_answers::Number;
+use block::Next;
+use block::Walk;
+use blockreport_rules::BlockReported;
+use ownlist_check::Checked;
+use text_first_pass::Copy;
+ghost use mathlib.Core.Path.{_≡_};
+ghost use Prim.Native.Nat.{_≤_};
+ghost use lib.ListN.{length};
+ghost use Rattle.lexis_rules.specs.Limits.{byteLimit};
+ghost use Rattle.identifier_rules.specs.OwnList.{ownList};
+ghost use Rattle.identifier_rules.specs.Listed.{ownOf};
+ghost use Rattle.identifier_rules.specs.Spelled.{linesOf, ownOfSpelled};
+ghost use Rattle.blockreport_rules.specs.Reports.{reportFields, reports};
+ghost use Rattle.blockreport_rules.specs.Answers.{answerOf, leaves};
+ghost use Rattle.blockreport.specs.Internal.{FieldsPut};
+
+// Writes what the fields add over the front of `out`, up to the first refusal; where it does not fit, something may be lost of `out`.
+fn put_fields(s: &[u8], own: &[u8], out: &mut [u8]) -> BlockReported
+    requires { ⌜ length (now s) ≤ byteLimit ⌝ }
+    ensures { λ r. ⌜ FieldsPut (now (s .entry)) (ownOfSpelled (linesOf (now (own .entry)))) (now (out .entry)) (now (out .exit)) r ⌝ }
+{
+    let fresh = Walk::fresh();
+    let mut at = fresh.at;
+    let mut count = fresh.count;
+    let mut to: usize = 0;
+    loop {
+        match block::next_field(s, Walk { at, count }) {
+            Next::Field {
+                start,
+                name_end,
+                body_start,
+                end,
+            } => {
+                count += 1;
+                to = blockreport_fields::put_field(
+                    count,
+                    own,
+                    &s[start..name_end],
+                    &s[body_start..end - 2],
+                    out,
+                    to,
+                );
+                at = end;
+            }
+            Next::End => {
+                return BlockReported {
+                    number: Number::DONE,
+                    place: 0,
+                    written: to,
+                };
+            }
+            Next::Refused { number, place } => {
+                return BlockReported {
+                    number,
+                    place,
+                    written: to,
+                };
+            }
+        }
+    }
+}
+
+fn refuse(number: u8, place: usize) -> BlockReported
+    ensures { λ r. ⌜ r ≡ record { number = number; place = place; written = 0 } ⌝ }
+{
+    BlockReported {
+        number,
+        place,
+        written: 0,
+    }
+}
+
+// Reports by our own list as it is compared. The first pass goes to a buffer of its own, and so measures: nothing is written to `out` before it is
+// known that all of it fits. What fits that too is copied from it; else a second pass writes it.
+fn reports_by(s: &[u8], own: &[u8], out: &mut [u8]) -> BlockReported
+    requires { ⌜ length (now s) ≤ byteLimit ⌝ }
+    ensures { λ r. ⌜ r ≡ answerOf (reportFields (now (s .entry)) (ownOfSpelled (linesOf (now (own .entry)))) (length (now (out .entry)))) ⌝ }
+    ensures { λ _. ⌜ now (out .exit) ≡ leaves (reportFields (now (s .entry)) (ownOfSpelled (linesOf (now (own .entry)))) (length (now (out .entry)))) (now (out .entry)) ⌝ }
+{
+    let mut first = [0u8; 8192];
+    let m = put_fields(s, own, &mut first);
+    if m.number != Number::DONE {
+        return refuse(m.number, m.place);
+    }
+    match text_first_pass::copy_first(&first, m.written, out) {
+        Copy::Short => refuse(Number::TOO_SHORT, m.written),
+        Copy::Again => put_fields(s, own, out),
+        Copy::Done => m,
+    }
+}
+
+// Reports by a list that has to be spelled first.
+fn reports_spelled(s: &[u8], list: &[u8], out: &mut [u8]) -> BlockReported
+    requires { ⌜ length (now s) ≤ byteLimit ⌝ }
+    ensures { λ r. ⌜ r ≡ answerOf (reportFields (now (s .entry)) (ownOf (ownList (now (list .entry)) .items)) (length (now (out .entry)))) ⌝ }
+    ensures { λ _. ⌜ now (out .exit) ≡ leaves (reportFields (now (s .entry)) (ownOf (ownList (now (list .entry)) .items)) (length (now (out .entry)))) (now (out .entry)) ⌝ }
+{
+    let mut own = ownlist_spelled::room::spelled();
+    let n = ownlist_spelled::spell_list(list, &mut own);
+    reports_by(s, &own[..n], out)
+}
+
+// Reports a header block into a lent buffer. A list without two hyphens in a row is compared as it stands; any other is spelled once, for all fields.
+pub fn reports(block: &[u8], list: &[u8], out: &mut [u8]) -> BlockReported
+    ensures { λ r. ⌜ r ≡ answerOf (reports (now (block .entry)) (now (list .entry)) (length (now (out .entry)))) ⌝ }
+    ensures { λ _. ⌜ now (out .exit) ≡ leaves (reports (now (block .entry)) (now (list .entry)) (length (now (out .entry)))) (now (out .entry)) ⌝ }
+{
+    if lexis_space::too_long(block) {
+        return refuse(Number::TOO_LONG, 0);
+    }
+    match ownlist_check::check_list(list) {
+        Checked::Bad { place } => {
+            return refuse(Number::BAD_LIST, place);
+        }
+        Checked::Good => {}
+    }
+    if punycode_hyphens::has_double_hyphen(list) {
+        return reports_spelled(block, list, out);
+    }
+    reports_by(block, list, out)
+}

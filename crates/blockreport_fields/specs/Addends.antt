@@ -1,0 +1,42 @@
+-- What a field adds to the report of a block, for bodies of any length, and what writing it leaves in a buffer of any length. Assumes nothing: these are definitions.
+use Prim.Native.Nat.{ℕ, _+_, min}
+use mathlib.Core.Bool.{true, false}
+use mathlib.Core.List.{List, []}
+use lib.Dec.{leb}
+use lib.ListN.{length}
+use lib.Seq.{sets}
+use Rattle.base_sequences.specs.Stored.{cap}
+use Rattle.base_readers.specs.Texts.{bytes}
+use Rattle.base_readers.specs.Parsers.{Got}
+use Rattle.lexis_rules.specs.Bytes.{alike}
+use Rattle.identifier_rules.specs.declared.Own.{Own}
+use Rattle.identifier_rules.specs.Identifier.{identifier}
+use Rattle.report_rules.specs.Report.{report}
+use Rattle.blockreport_rules.specs.FieldLines.{fieldLine}
+
+-- a line, and the report that follows it
+pub record Addend : Type 0 where
+  pub line : List ℕ
+  pub text : List ℕ
+
+-- the line of the n-th field and the report of its body, by what its report answers with the largest room. 01, Answer numbers: for a body over 65,536 bytes
+-- the number is 1, no result is ignored and there is no report
+unfoldable pub bodyAddend : ℕ → Own → List ℕ → Addend
+bodyAddend n whose body = record { line = fieldLine n whose (report body cap .number) (report body cap .ignored); text = report body cap .written }
+
+-- each field named Authentication-Results, in any case, and no other. Whose an identifier is `whose` says
+unfoldable pub fieldAddend : (Got (List ℕ) → Own) → ℕ → List ℕ → List ℕ → Addend
+fieldAddend whose n name body =
+    elim (alike name (bytes "Authentication-Results")) [ true ↦ bodyAddend n (whose (identifier body)) body | false ↦ record { line = []; text = [] } ]
+
+-- the place after it, written from a place on: at most the largest one
+abbrev pub placeAfter : Addend → ℕ → ℕ
+placeAfter a to = min (to + (length (a .line) + length (a .text))) cap
+
+-- a text from a place on where there is room for all of it, and else nothing
+unfoldable pub ifRoom : List ℕ → ℕ → List ℕ → List ℕ
+ifRoom old to text = elim (leb (to + length text) (length old)) [ true ↦ sets old to text | false ↦ old ]
+
+-- the line as far as there is room (`sets` stores nothing past the end), and then the report where there is room for all of it
+unfoldable pub bufferAfter : Addend → List ℕ → ℕ → List ℕ
+bufferAfter a old to = ifRoom (sets old to (a .line)) (to + length (a .line)) (a .text)

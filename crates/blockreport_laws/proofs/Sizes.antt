@@ -1,0 +1,75 @@
+-- How long the lines of a field can be: the line of its number by its columns, and its report by the length of its body. Assumes nothing.
+use Prim.Native.Nat.{ℕ, zero, suc, _+_, _*_, _/_, _%_, _≤_}
+use native.Mathlib.Omega.{arith}
+use mathlib.Core.Path.{_≡_, refl}
+use mathlib.Core.Bool.{Bool, true, false}
+use mathlib.Core.List.{List, [], _∷_}
+use lib.Dec.{ltb}
+use lib.ListN.{length, length-append}
+use Rattle.base_readers.specs.Texts.{bytes}
+use Rattle.base_readers.specs.Parsers.{Got}
+use Rattle.text_decimals_rules.specs.Decimals.{digit, digits, decimal}
+use Rattle.lexis_rules.specs.Bytes.{alike}
+use Rattle.lexis_rules.specs.Limits.{byteLimit}
+use Rattle.identifier_rules.specs.declared.Own.{Own}
+use Rattle.identifier_rules.specs.declared.Own.the-variants.{Ours, Others, Unreadable}
+use Rattle.identifier_rules.specs.Identifier.{identifier}
+use Rattle.report_rules.specs.Body.{Reading, unreadable, malformed, newer, noResult, results, reading}
+use Rattle.report_rules.specs.Report.{line}
+use Rattle.report_rules.specs.Told.{numberOf, textOf, countOf}
+use Rattle.report_laws.proofs.Counts.{count-size}
+use Rattle.report_laws.proofs.Rooms.{text-size}
+use Rattle.blockreport_rules.specs.FieldLines.{wordOf, fieldLine}
+use Rattle.blockreport_rules.specs.Reports.{bodyLines, addition}
+
+digits-size : (k n : ℕ) → length (digits k n) ≤ k + 1
+unfolding digits
+digits-size zero n = omega arith
+digits-size (suc k) n = go (ltb n 10) refl (digits-size k (n / 10))
+  where
+    go : (t : Bool) → ltb n 10 ≡ t → length (digits k (n / 10)) ≤ k + 1 → length (digits (suc k) n) ≤ suc k + 1
+    go true e ih = rw (digits, e) (omega arith)
+    go false e ih = rw (digits, e) (omega (arith, ih, length-append (digits k (n / 10)) (digit (n % 10) ∷ [])))
+
+decimal-size : (n : ℕ) → length (decimal n) ≤ n + 1
+unfolding decimal
+decimal-size n = digits-size n n
+
+word-size : (o : Own) → length (wordOf o) ≤ 10
+unfolding wordOf
+word-size Ours = omega arith
+word-size Others = omega arith
+word-size Unreadable = omega arith
+
+field-line-size : (n : ℕ) (o : Own) (a i : ℕ) → length (fieldLine n o a i) ≤ n + a + i + 23
+unfolding fieldLine line
+field-line-size n o a i = simp length-append (omega (arith, decimal-size n, word-size o, decimal-size a, decimal-size i))
+
+number-size : (x : Reading) → numberOf x ≤ 9
+number-size unreadable = omega arith
+number-size malformed = omega arith
+number-size (newer h) = omega arith
+number-size (noResult i) = omega arith
+number-size (results i rs) = omega arith
+
+-- the line of the n-th field and the report of its body
+pub addition-size : (whose : Got (List ℕ) → Own) (n : ℕ) (name body : List ℕ) → length body ≤ byteLimit
+    → length (addition whose n name body) ≤ n + 6 * length body + 36
+unfolding addition bodyLines
+addition-size whose n name body h = go (alike name (bytes "Authentication-Results")) refl
+  where
+    x : Reading
+    x = reading body
+
+    go : (t : Bool) → alike name (bytes "Authentication-Results") ≡ t → length (addition whose n name body) ≤ n + 6 * length body + 36
+    go false e = rw (addition, e) (omega arith)
+    go true e =
+        rw (addition, e)
+        (omega (
+          arith,
+          length-append (fieldLine n (whose (identifier body)) (numberOf x) (countOf x)) (textOf x),
+          field-line-size n (whose (identifier body)) (numberOf x) (countOf x),
+          number-size x,
+          count-size body,
+          text-size body h,
+        ))

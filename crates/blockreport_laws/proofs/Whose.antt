@@ -1,0 +1,34 @@
+-- Where the same is said of whose each identifier is, the report of a block is the same. Assumes nothing.
+use Prim.Native.Nat.{ℕ, zero, suc}
+use mathlib.Core.Path.{_≡_, refl, ap}
+use mathlib.Core.Bool.{Bool, true, false}
+use mathlib.Core.List.{List, [], _∷_}
+use Rattle.base_readers.specs.Texts.{bytes}
+use Rattle.base_readers.specs.Parsers.{Got}
+use Rattle.lexis_rules.specs.Bytes.{alike}
+use Rattle.block_rules.specs.Fields.{Field, nameOf, bodyOf, fields}
+use Rattle.identifier_rules.specs.declared.Own.{Own}
+use Rattle.identifier_rules.specs.Identifier.{identifier}
+use Rattle.blockreport_rules.specs.Reports.{bodyLines, addition, additions, reportFields}
+
+module _ (whose whose′ : Got (List ℕ) → Own) (same : (g : Got (List ℕ)) → whose g ≡ whose′ g) where
+  same-addition : (n : ℕ) (name body : List ℕ) → addition whose n name body ≡ addition whose′ n name body
+  unfolding addition
+  same-addition n name body = go (alike name (bytes "Authentication-Results")) refl
+    where
+      go : (t : Bool) → alike name (bytes "Authentication-Results") ≡ t → addition whose n name body ≡ addition whose′ n name body
+      go true e = rw (addition, e) (ap (λ (o : Own). bodyLines n o body) (same (identifier body)))
+      go false e = rw (addition, e)
+
+  same-additions : (n : ℕ) (fs : List Field) → additions whose n fs ≡ additions whose′ n fs
+  unfolding additions
+  same-additions n [] = refl
+  same-additions n (f ∷ fs) = rw (same-addition n (nameOf f) (bodyOf f), same-additions (suc n) fs)
+
+  pub same-reported : (block : List ℕ) (room : ℕ) → reportFields block whose room ≡ reportFields block whose′ room
+  unfolding reportFields
+  same-reported block room = go (fields block .number) refl
+    where
+      go : (n : ℕ) → fields block .number ≡ n → reportFields block whose room ≡ reportFields block whose′ room
+      go zero e = rw (reportFields, e, same-additions 1 (fields block .items))
+      go (suc n) e = rw (reportFields, e)

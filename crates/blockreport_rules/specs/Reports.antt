@@ -1,0 +1,64 @@
+-- The report of a header block: what each field adds, and the answers in order. Assumes nothing: these are definitions.
+use Prim.Native.Nat.{ℕ, zero, suc}
+use mathlib.Core.Bool.{true, false}
+use mathlib.Core.List.{List, [], _∷_, _++_}
+use lib.Dec.{ltb}
+use lib.ListN.{length}
+use Rattle.base_readers.specs.Texts.{bytes}
+use Rattle.base_readers.specs.Parsers.{Got}
+use Rattle.base_readers.specs.Walks.{Walked}
+use Rattle.lexis_rules.specs.Bytes.{alike}
+use Rattle.lexis_rules.specs.Limits.{byteLimit}
+use Rattle.block_rules.specs.Fields.{Field, nameOf, bodyOf, fields}
+use Rattle.identifier_rules.specs.declared.Own.{Own}
+use Rattle.identifier_rules.specs.OwnList.{ownList}
+use Rattle.identifier_rules.specs.Identifier.{identifier}
+use Rattle.identifier_rules.specs.Listed.{ownOf}
+use Rattle.report_rules.specs.Body.{reading}
+use Rattle.report_rules.specs.Told.{numberOf, textOf, countOf}
+use Rattle.blockreport_rules.specs.FieldLines.{fieldLine}
+
+-- ==== what a field adds
+
+-- the n-th field's line, and then the report of its body: no lines where that answers 7 or 9, two where it answers 8
+unfoldable pub bodyLines : ℕ → Own → List ℕ → List ℕ
+bodyLines n whose body = fieldLine n whose (numberOf (reading body)) (countOf (reading body)) ++ textOf (reading body)
+
+-- each field named Authentication-Results, in any case, and no other. Whose an identifier is `whose` says
+unfoldable pub addition : (Got (List ℕ) → Own) → ℕ → List ℕ → List ℕ → List ℕ
+addition whose n name body =
+    elim (alike name (bytes "Authentication-Results")) [ true ↦ bodyLines n (whose (identifier body)) body | false ↦ [] ]
+
+-- what fields add, one after the other, of which the first is the n-th of the block: all fields count
+unfoldable pub additions : (Got (List ℕ) → Own) → ℕ → List Field → List ℕ
+additions whose n [] = []
+additions whose n (f ∷ fs) = addition whose n (nameOf f) (bodyOf f) ++ additions whose (suc n) fs
+
+-- ==== the answer
+
+-- an answer, and what is written
+pub record Answer : Type 0 where
+  pub number : ℕ
+  pub place : ℕ
+  pub written : List ℕ
+
+-- 01, Answer numbers: refusals write nothing
+abbrev pub refuse : ℕ → ℕ → Answer
+refuse n p = record { number = n; place = p; written = [] }
+
+-- 6: lent output shorter than the whole output; its place is the bytes needed
+unfoldable pub fitted : List ℕ → ℕ → Answer
+fitted text room = elim (ltb room (length text)) [ true ↦ refuse 6 (length text) | false ↦ record { number = 0; place = 0; written = text } ]
+
+-- a walk's refusal, or what its items give
+abbrev pub orRefusal : {A : Type 0} → Walked A → (List A → Answer) → Answer
+orRefusal w f = elim (w .number) [ zero ↦ f (w .items) | suc n ↦ refuse (suc n) (w .place) ]
+
+-- 2 to 4, then 6. The fields are numbered from 1
+unfoldable pub reportFields : List ℕ → (Got (List ℕ) → Own) → ℕ → Answer
+reportFields block whose room = orRefusal (fields block) (λ fs. fitted (additions whose 1 fs) room)
+
+-- 1, then 5, then 2 to 4, then 6, as for stripping. An identifier is our own when it equals a list entry
+unfoldable pub reports : List ℕ → List ℕ → ℕ → Answer
+reports block list room =
+    elim (ltb byteLimit (length block)) [ true ↦ refuse 1 0 | false ↦ orRefusal (ownList list) (λ own. reportFields block (ownOf own) room) ]

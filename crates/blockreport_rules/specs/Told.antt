@@ -1,0 +1,18 @@
+-- What the theorems on the report of a block speak of. Assumes nothing: these are definitions.
+use Prim.Native.Nat.{ℕ, _≤_}
+use mathlib.Core.Path.{_≡_}
+use mathlib.Core.List.{List}
+use lib.ListN.{length}
+use Rattle.lexis_rules.specs.Limits.{byteLimit}
+use Rattle.block_rules.specs.Fields.{fields}
+use Rattle.identifier_rules.specs.OwnList.{ownList}
+use Rattle.identifier_rules.specs.Listed.{ownOf}
+use Rattle.blockreport_rules.specs.Reports.{additions}
+
+-- what the fields of a block add, by a list
+abbrev pub blockText : List ℕ → List ℕ → List ℕ
+blockText block list = additions (ownOf (ownList list .items)) 1 (fields block .items)
+
+-- it is known: the block is within the limit, the list is good, and the walk over the block comes to its end
+abbrev pub Known : List ℕ → List ℕ → Type 0
+Known block list = (length block ≤ byteLimit) × ((ownList list .number ≡ 0) × (fields block .number ≡ 0))

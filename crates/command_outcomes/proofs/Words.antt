@@ -1,0 +1,45 @@
+-- What is said in words, and what a judgement is refused with. Assumes nothing.
+use Prim.Native.Nat.{ℕ, min}
+use native.Mathlib.Nat.{zero-add}
+use mathlib.Core.Path.{_≡_, sym, ap, _∙_, subst}
+use mathlib.Core.List.{List}
+use lib.ListN.{length}
+use borrow.Author.Tests.{eq-eqb, ne-eqb}
+use Rattle.base_sequences.specs.Stored.{cap, Clipped}
+use Rattle.blockreport_rules.specs.declared.BlockReported.{BlockReported}
+use Rattle.explain_rules.specs.Explained.{explained}
+use Rattle.arc_rules.specs.declared.Judged.{Judged}
+use Rattle.judgement_rules.specs.Judgement.{judgement}
+use Rattle.command_rules.specs.declared.Ending.{Ending}
+use Rattle.command_rules.specs.declared.Ending.the-variants.{VerdictsRefused, Refused}
+use Rattle.command_ending.specs.Outcomes.{Outcome}
+use Rattle.command_outcomes.specs.Ends.{ExplainEnds, verdictsRefusal, JudgeEnds}
+
+-- ==== what is written in words
+
+-- a text that is stored from the front on has its length, at most the largest place
+pub words-so : (number : ℕ) (refusal : Ending) (room n m : ℕ) (old text new : List ℕ) (r : Ending)
+    → room ≡ m → Clipped old 0 text new n → Outcome number refusal m n r → Outcome number refusal room (min (length text) cap) r
+words-so number refusal room n m old text new r q w o =
+    let e : n ≡ min (length text) cap = w .place ∙ ap (λ (k : ℕ). min k cap) (zero-add (length text)) in
+    subst (λ (k : ℕ). Outcome number refusal room k r) e (subst (λ (k : ℕ). Outcome number refusal k n r) (sym q) o)
+
+-- ==== a judgement's refusal
+
+module _ (number place : ℕ) where
+  pub refused-verdicts : number ≡ 10 → VerdictsRefused ≡ verdictsRefusal number place
+  refused-verdicts e = rw (eq-eqb number 10 e)
+
+  pub refused-so : (number ≡ 10 → ⊥) → Refused number place ≡ verdictsRefusal number place
+  refused-so e = rw (ne-eqb number 10 e)
+
+pub judge-so : (j : Judged) (f : Ending) (n m : ℕ) (old new : List ℕ) (r : Ending) → f ≡ verdictsRefusal (j .number) (j .place) → 512 ≡ m → Clipped old 0 (judgement j) new n
+    → Outcome (j .number) f m n r → JudgeEnds j r
+judge-so j f n m old new r g q w o =
+    words-so (j .number) (verdictsRefusal (j .number) (j .place)) 512 n m old (judgement j) new r q w (subst (λ (x : Ending). Outcome (j .number) x m n r) g o)
+
+-- the part of the lines that was handed on
+pub explain-so : (a : BlockReported) (lines part : List ℕ) (n m : ℕ) (old new : List ℕ) (r : Ending) → part ≡ lines → 524288 ≡ m → Clipped old 0 (explained part) new n
+    → Outcome (a .number) (Refused (a .number) (a .place)) m n r → ExplainEnds a lines r
+explain-so a lines part n m old new r p q w o =
+    subst (λ (l : List ℕ). ExplainEnds a l r) p (words-so (a .number) (Refused (a .number) (a .place)) 524288 n m old (explained part) new r q w o)

@@ -1,0 +1,79 @@
+// How a subcommand ends, by what its call answered: the output is written, or the refusal is told.
+//
+//   strip_outcome(a, out)       what `strip::strip` answered, and the buffer that it was lent
+//   report_outcome(a, out)      the same of `blockreport::reports`
+//   explain_outcome(a, lines)   the same, with the lines said in words
+//   judge_outcome(j)            what `arc::judge` answered, said in columns and in words
+//   write_outcome(a, out)       what `write::write` answered, and the buffer that it was lent
+//
+// They take any answers: one that names more bytes than the buffer has ends in `OutputTooLong`.
+use arc_rules::Judged;
+use base_answers::Number;
+use blockreport_rules::BlockReported;
+use command_rules::Ending;
+use strip_rules::Stripped;
+use write_rules::Written;
+ghost use mathlib.Core.Path.{_≡_};
+ghost use lib.ListN.{length};
+ghost use Rattle.base_sequences.specs.Spans.{span};
+ghost use Rattle.command_outcomes.specs.Ends.{StripEnds, ReportEnds, ExplainEnds, verdictsRefusal, JudgeEnds, WriteEnds};
+
+pub fn strip_outcome(a: Stripped, out: &[u8]) -> Ending
+    ensures { λ r. ⌜ StripEnds (length (now (out .entry))) a r ⌝ }
+{
+    let refusal = Ending::Refused {
+        number: a.number,
+        place: a.place,
+    };
+    command_ending::outcome(a.number, refusal, out, a.kept)
+}
+
+pub fn report_outcome(a: BlockReported, out: &[u8]) -> Ending
+    ensures { λ r. ⌜ ReportEnds (length (now (out .entry))) a r ⌝ }
+{
+    let refusal = Ending::Refused {
+        number: a.number,
+        place: a.place,
+    };
+    command_ending::outcome(a.number, refusal, out, a.written)
+}
+
+pub fn explain_outcome(a: BlockReported, lines: &[u8]) -> Ending
+    ensures { λ r. ⌜ ExplainEnds a (span (now (lines .entry)) 0 (a .written)) r ⌝ }
+{
+    let refusal = Ending::Refused {
+        number: a.number,
+        place: a.place,
+    };
+    let mut out = command_buffers::explained();
+    let n = explain::put_explained(text_parts::part(lines, 0, a.written), &mut out, 0);
+    command_ending::outcome(a.number, refusal, &out, n)
+}
+
+// What a judgement is refused with.
+fn refusal_of(number: u8, place: usize) -> Ending
+    ensures { λ r. ⌜ r ≡ verdictsRefusal number place ⌝ }
+{
+    if number == Number::BAD_VERDICTS {
+        return Ending::VerdictsRefused;
+    }
+    Ending::Refused { number, place }
+}
+
+pub fn judge_outcome(j: Judged) -> Ending
+    ensures { λ r. ⌜ JudgeEnds j r ⌝ }
+{
+    let mut out = command_buffers::judgement();
+    let n = judgement::put_judgement(j, &mut out, 0);
+    command_ending::outcome(j.number, refusal_of(j.number, j.place), &out, n)
+}
+
+pub fn write_outcome(a: Written, out: &[u8]) -> Ending
+    ensures { λ r. ⌜ WriteEnds (length (now (out .entry))) a r ⌝ }
+{
+    let refusal = Ending::LinesRefused {
+        number: a.number,
+        place: a.place,
+    };
+    command_ending::outcome(a.number, refusal, out, a.written)
+}

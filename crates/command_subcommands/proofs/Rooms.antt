@@ -1,0 +1,40 @@
+-- What a call answers for the room of its buffer is what it answers for that many bytes. Assumes nothing.
+use Prim.Native.Nat.{ℕ, _-_}
+use native.Mathlib.Omega.{arith}
+use mathlib.Core.Path.{_≡_, sym, ap, _∙_, subst}
+use mathlib.Core.List.{List}
+use lib.ListN.{length, take, drop}
+use lib.Seq.{take-append-seam}
+use Rattle.base_sequences.specs.Spans.{span}
+use Rattle.blockreport_rules.specs.declared.BlockReported.{BlockReported}
+use Rattle.blockreport_rules.specs.Reports.{Answer}
+use Rattle.blockreport_rules.specs.Answers.{answerOf, leaves}
+use Rattle.arc_rules.specs.declared.Judged.{Judged}
+use Rattle.command_rules.specs.declared.Ending.{Ending}
+use Rattle.command_outcomes.specs.Ends.{ExplainEnds, JudgeEnds}
+
+-- S says how a call ends by its room and its answer, and x is the answer by the room
+pub ends-so : {A : Type 0} (S : ℕ → A → Ending → Type 0) (x : ℕ → A) (room n m : ℕ) (a : A) (r : Ending)
+    → room ≡ n → room ≡ m → a ≡ x n → S m a r → S room (x room) r
+ends-so {A} S x room n m a r p q e w =
+    let v : S room a r = subst (λ (k : ℕ). S k a r) (sym q) w in
+    let f : a ≡ x room = e ∙ ap x (sym p) in
+    subst (λ (b : A). S room b r) f v
+
+pub judge-so : (j k : Judged) (r : Ending) → j ≡ k → JudgeEnds j r → JudgeEnds k r
+judge-so j k r e o = subst (λ (i : Judged). JudgeEnds i r) e o
+
+-- ==== the lines of a report
+
+module _ (x : ℕ → Answer) (n : ℕ) (b : BlockReported) (old new : List ℕ) (e : b ≡ answerOf (x n)) (l : new ≡ leaves (x n) old) where
+  -- what was stored is what was reported
+  stored : span new 0 (b .written) ≡ x n .written
+  stored =
+      let z : b .written - 0 ≡ length (x n .written) = let f = ap (λ (y : BlockReported). y .written) e in omega (arith, f) in
+      rw (z, l) (take-append-seam (x n .written) (drop (length (x n .written)) old))
+
+  pub explain-so : (r : Ending) → 229377 ≡ n → ExplainEnds b (span new 0 (b .written)) r → ExplainEnds (answerOf (x 229377)) (x 229377 .written) r
+  explain-so r q o =
+      let v : ExplainEnds b (x n .written) r = subst (λ (y : List ℕ). ExplainEnds b y r) stored o in
+      let w : ExplainEnds (answerOf (x n)) (x n .written) r = subst (λ (y : BlockReported). ExplainEnds y (x n .written) r) e v in
+      subst (λ (k : ℕ). ExplainEnds (answerOf (x k)) (x k .written) r) (sym q) w

@@ -1,0 +1,61 @@
+// What each subcommand does with what was read: one call, and its output written. The answer is how the command ends.
+//
+//   strip_block(block, list)     strips a block and writes what is kept
+//   report_block(block, list)    writes what each Authentication-Results field of a block says
+//   explain_block(block, list)   writes the same in words
+//   judge_block(block, digits)   writes what the ARC chain of a block says by the verdicts that these digits say
+//   write_body(lines)            writes the body that has these lines as its report
+use command_rules::Ending;
+ghost use mathlib.Core.Path.{_≡_};
+ghost use mathlib.Core.List.{map};
+ghost use Rattle.strip_rules.specs.Strip as stripping;
+ghost use Rattle.strip_rules.specs.Answers as stripped;
+ghost use Rattle.blockreport_rules.specs.Reports as reporting;
+ghost use Rattle.blockreport_rules.specs.Answers as reported;
+ghost use Rattle.write_rules.specs.Compose as composing;
+ghost use Rattle.write_rules.specs.Answers as composed;
+ghost use Rattle.arc_rules.specs.Chain as chains;
+ghost use Rattle.arc_rules.specs.Answers as judged;
+ghost use Rattle.judgement_rules.specs.Judgement.{verdictOf};
+ghost use Rattle.command_outcomes.specs.Ends.{StripEnds, ReportEnds, ExplainEnds, JudgeEnds, WriteEnds};
+
+pub fn strip_block(block: &[u8], list: &[u8]) -> Ending
+    ensures { λ r. ⌜ StripEnds 65537 (stripped.answerOf (stripping.strip (now (block .entry)) (now (list .entry)) 65537)) r ⌝ }
+{
+    let mut out = command_buffers::block();
+    let a = strip::strip(block, list, &mut out);
+    command_outcomes::strip_outcome(a, &out)
+}
+
+pub fn report_block(block: &[u8], list: &[u8]) -> Ending
+    ensures { λ r. ⌜ ReportEnds 229377 (reported.answerOf (reporting.reports (now (block .entry)) (now (list .entry)) 229377)) r ⌝ }
+{
+    let mut out = command_buffers::reports();
+    let a = blockreport::reports(block, list, &mut out);
+    command_outcomes::report_outcome(a, &out)
+}
+
+pub fn explain_block(block: &[u8], list: &[u8]) -> Ending
+    ensures { λ r. ⌜ ExplainEnds (reported.answerOf (reporting.reports (now (block .entry)) (now (list .entry)) 229377)) (reporting.reports (now (block .entry)) (now (list .entry)) 229377 .written) r ⌝ }
+{
+    let mut lines = command_buffers::reports();
+    let a = blockreport::reports(block, list, &mut lines);
+    command_outcomes::explain_outcome(a, &lines)
+}
+
+// The digits are turned into verdicts where they stand.
+pub fn judge_block(block: &[u8], digits: &mut [u8]) -> Ending
+    ensures { λ r. ⌜ JudgeEnds (judged.answerOf (chains.judge (now (block .entry)) (map verdictOf (now (digits .entry))))) r ⌝ }
+    ensures { λ _. ⌜ now (digits .exit) ≡ map verdictOf (now (digits .entry)) ⌝ }
+{
+    judgement::read_verdicts(digits);
+    command_outcomes::judge_outcome(arc::judge(block, digits))
+}
+
+pub fn write_body(lines: &[u8]) -> Ending
+    ensures { λ r. ⌜ WriteEnds 65537 (composed.answerOf (composing.compose (now (lines .entry)) 65537)) r ⌝ }
+{
+    let mut out = command_buffers::block();
+    let a = write::write(lines, &mut out);
+    command_outcomes::write_outcome(a, &out)
+}

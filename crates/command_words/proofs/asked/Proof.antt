@@ -1,0 +1,86 @@
+-- `command_words::asked` meets its contract: each test in turn is a case of the definition. Assumes nothing.
+use Rattle.command_rules.proofs.Lines.{asked-strip, asked-report, asked-explain, asked-judge, asked-neither, asked-other, asked-write, asked-unlisted}
+use borrow.Author.Needs.{needs}
+use Rattle.command_words.proofs.asked.Statement.{statement}
+use Rattle.command_words.proofs.asked.Tie as tie
+
+slice-aggregate-is-same : tie.Need-slice-aggregate-is-same
+slice-aggregate-is-same c = search needs
+
+is-same-requires : tie.Need-is-same-requires
+is-same-requires c κs = search needs
+
+returns : tie.Need-returns
+returns c = asked-strip (c .before .before .before .before .before .args .count) (c .before .before .before .before .before .args .word .now) (c .before .before .before .if1 .taken) _ (c .before .is-same .ensures) (c .if2 .taken)
+
+slice-aggregate-is-same-2 : tie.Need-slice-aggregate-is-same-2
+slice-aggregate-is-same-2 c = search needs
+
+is-same-requires-2 : tie.Need-is-same-requires-2
+is-same-requires-2 c κs = search needs
+
+returns-2 : tie.Need-returns-2
+returns-2 c =
+    asked-report (c .before .before .before .before .before .before .before .before .args .count) (c .before .before .before .before .before .before .before .before .args .word .now) (c .before .before .before .before .before .before .if1 .taken) _ (c .before .before .before .before .is-same .ensures) (c .before .before .before .if2 .left) _ (c .before .is-same2 .ensures) (c .if3 .taken)
+
+slice-aggregate-is-same-3 : tie.Need-slice-aggregate-is-same-3
+slice-aggregate-is-same-3 c = search needs
+
+is-same-requires-3 : tie.Need-is-same-requires-3
+is-same-requires-3 c κs = search needs
+
+returns-3 : tie.Need-returns-3
+returns-3 c =
+    asked-explain (c .before .before .before .before .before .before .before .before .before .before .before .args .count) (c .before .before .before .before .before .before .before .before .before .before .before .args .word .now) (c .before .before .before .before .before .before .before .before .before .if1 .taken) _ (c .before .before .before .before .before .before .before .is-same .ensures) (c .before .before .before .before .before .before .if2 .left) _ (c .before .before .before .before .is-same2 .ensures) (c .before .before .before .if3 .left) _ (c .before .is-same3 .ensures) (c .if4 .taken)
+
+slice-aggregate-is-same-4 : tie.Need-slice-aggregate-is-same-4
+slice-aggregate-is-same-4 c = search needs
+
+is-same-requires-4 : tie.Need-is-same-requires-4
+is-same-requires-4 c κs = search needs
+
+returns-4 : tie.Need-returns-4
+returns-4 c =
+    asked-judge (c .before .before .before .before .before .before .before .before .before .before .before .before .before .before .args .count) (c .before .before .before .before .before .before .before .before .before .before .before .before .before .before .args .word .now) (c .before .before .before .before .before .before .before .before .before .before .before .before .if1 .taken) _ (c .before .before .before .before .before .before .before .before .before .before .is-same .ensures) (c .before .before .before .before .before .before .before .before .before .if2 .left) _ (c .before .before .before .before .before .before .before .is-same2 .ensures) (c .before .before .before .before .before .before .if3 .left) _ (c .before .before .before .before .is-same3 .ensures) (c .before .before .before .if4 .left) _ (c .before .is-same4 .ensures) (c .if5 .taken)
+
+returns-5 : tie.Need-returns-5
+returns-5 c =
+    asked-neither (c .before .before .before .before .before .before .before .before .before .before .before .before .before .before .args .count) (c .before .before .before .before .before .before .before .before .before .before .before .before .before .before .args .word .now) (c .before .before .before .before .before .before .before .before .before .before .before .before .if1 .taken) _ (c .before .before .before .before .before .before .before .before .before .before .is-same .ensures) (c .before .before .before .before .before .before .before .before .before .if2 .left) _ (c .before .before .before .before .before .before .before .is-same2 .ensures) (c .before .before .before .before .before .before .if3 .left) _ (c .before .before .before .before .is-same3 .ensures) (c .before .before .before .if4 .left) _ (c .before .is-same4 .ensures) (c .if5 .left)
+
+slice-aggregate-is-same-5 : tie.Need-slice-aggregate-is-same-5
+slice-aggregate-is-same-5 c = search needs
+
+is-same-requires-5 : tie.Need-is-same-requires-5
+is-same-requires-5 c κs = search needs
+
+returns-6 : tie.Need-returns-6
+returns-6 c = asked-write (c .before .before .before .before .before .before .args .count) (c .before .before .before .before .before .before .args .word .now) (c .before .before .before .before .if1 .left) (c .before .before .before .if6 .taken) _ (c .before .is-same5 .ensures) (c .if7 .taken)
+
+returns-7 : tie.Need-returns-7
+returns-7 c = asked-unlisted (c .before .before .before .before .before .before .args .count) (c .before .before .before .before .before .before .args .word .now) (c .before .before .before .before .if1 .left) (c .before .before .before .if6 .taken) _ (c .before .is-same5 .ensures) (c .if7 .left)
+
+returns-8 : tie.Need-returns-8
+returns-8 c = asked-other (c .before .before .before .args .count) (c .before .before .before .args .word .now) (c .before .if1 .left) (c .if6 .left)
+
+pub asked-spec : {M : Type 1} → statement M
+asked-spec =
+    tie.close
+    (tie.spec
+    slice-aggregate-is-same
+    is-same-requires
+    returns
+    slice-aggregate-is-same-2
+    is-same-requires-2
+    returns-2
+    slice-aggregate-is-same-3
+    is-same-requires-3
+    returns-3
+    slice-aggregate-is-same-4
+    is-same-requires-4
+    returns-4
+    returns-5
+    slice-aggregate-is-same-5
+    is-same-requires-5
+    returns-6
+    returns-7
+    returns-8)

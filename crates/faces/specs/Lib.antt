@@ -1,3 +1,0 @@
-pub mod Faces
-pub mod Made
-pub mod Version

@@ -1,0 +1,4 @@
+pub mod Faces
+pub mod Made
+pub mod Version
+pub mod JudgeFaces

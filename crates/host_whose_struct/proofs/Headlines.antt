@@ -1,0 +1,36 @@
+-- What `whose` says and what stripping does are the same thing, for every good list and every body that is not too long. Assumes nothing.
+use Prim.Native.Nat.{ℕ, _≤_}
+use mathlib.Core.Path.{_≡_, refl}
+use mathlib.Core.Bool.{Bool, true, false, not}
+use mathlib.Core.List.{List}
+use borrow.Author.Tests.{le-ltb}
+use lib.Dec.{ltb, eqb, lit≤}
+use lib.ListN.{length}
+use Rattle.base_readers.specs.Texts.{bytes}
+use Rattle.base_readers.specs.Parsers.{Got, nothing, got}
+use Rattle.lexis_rules.specs.Limits.{byteLimit}
+use Rattle.identifier_rules.specs.OwnList.{ownList}
+use Rattle.identifier_rules.specs.Identifier.{identifier}
+use Rattle.identifier_rules.specs.Listed.{among, ownIf, ownOf}
+use Rattle.strip_rules.specs.Strip.{oursOrUnreadable}
+use Rattle.host_whose_struct.specs.Whose.{ownerCode, whose}
+use Rattle.host_whose_struct.proofs.WhoseExamples.{opened}
+
+-- stripping removes an Authentication-Results field with this body exactly where the answer is not 1, another's
+pub whose-strips : (list body : List ℕ) → length body ≤ byteLimit → ownList list .number ≡ 0
+    → oursOrUnreadable (among (ownList list .items)) body ≡ not (eqb (whose list body .whose) 1)
+unfolding whose oursOrUnreadable
+whose-strips list body h z = let t : ltb byteLimit (length body) ≡ false = le-ltb _ _ h in rw (whose, oursOrUnreadable, t, z) (go (identifier body))
+  where
+    listed : (b : Bool) → b ≡ not (eqb (ownerCode (ownIf b)) 1)
+    listed true = refl
+    listed false = refl
+
+    go : (g : Got (List ℕ)) → elim g [ nothing ↦ true | got i _ ↦ among (ownList list .items) i ] ≡ not (eqb (ownerCode (ownOf (ownList list .items) g)) 1)
+    go nothing = refl
+    go (got i n) = listed (among (ownList list .items) i)
+
+-- an instance: of a list with one entry, the body that has it
+instance : oursOrUnreadable (among (ownList (bytes "a\n") .items)) (bytes "A;") ≡ not (eqb (whose (bytes "a\n") (bytes "A;") .whose) 1)
+unfolding opened
+instance = whose-strips (bytes "a\n") (bytes "A;") (lit≤ tt) refl

@@ -1,0 +1,37 @@
+-- Whose the identifier of a body is, with the answers in stripping's order. Assumes nothing: these are definitions.
+use Prim.Native.Nat.{ℕ, zero, suc}
+use mathlib.Core.Bool.{true, false}
+use mathlib.Core.List.{List}
+use lib.Dec.{ltb}
+use lib.ListN.{length}
+use Rattle.lexis_rules.specs.Limits.{byteLimit}
+use Rattle.identifier_rules.specs.declared.Own.{Own}
+use Rattle.identifier_rules.specs.declared.Own.the-variants.{Ours, Others, Unreadable}
+use Rattle.identifier_rules.specs.OwnList.{ownList}
+use Rattle.identifier_rules.specs.Identifier.{identifier}
+use Rattle.identifier_rules.specs.Listed.{ownOf}
+use Rattle.host_whose_struct.specs.declared.WhoseFace.{WhoseFace}
+
+-- 0 ours, 1 another's, 2 unreadable
+abbrev pub ownerCode : Own → ℕ
+ownerCode Ours = 0
+ownerCode Others = 1
+ownerCode Unreadable = 2
+
+-- 01, Answer numbers: refusals return zero counts
+abbrev pub refuseWhose : ℕ → ℕ → WhoseFace
+refuseWhose n p = record { number = n; whose = 0; place = p }
+
+abbrev pub tellWhose : Own → WhoseFace
+tellWhose o = record { number = 0; whose = ownerCode o; place = 0 }
+
+-- 01, Answer numbers, in stripping's order: 1 for the body, then 5 for the list; else whose the identifier is
+unfoldable pub whose : List ℕ → List ℕ → WhoseFace
+whose list body =
+    elim (ltb byteLimit (length body)) [
+      | true ↦ refuseWhose 1 0
+      | false ↦ (elim (ownList list .number) [
+        | zero ↦ tellWhose (ownOf (ownList list .items) (identifier body))
+        | suc n ↦ refuseWhose (suc n) (ownList list .place)
+      ])
+    ]

@@ -1,0 +1,4 @@
+mod Digits
+pub mod Bytes
+pub mod Items
+pub mod Loops

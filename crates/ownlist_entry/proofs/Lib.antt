@@ -1,0 +1,2 @@
+pub mod ByteSequences
+pub mod Sequences

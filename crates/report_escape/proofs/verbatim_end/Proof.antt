@@ -1,0 +1,64 @@
+-- `report_escape::verbatim_end` meets its contract: from each place of the loop the run ends where it ends from the first. Assumes nothing.
+use Prim.Native.Nat.{_-_}
+use native.Mathlib.Omega.{arith}
+use borrow.Author.Needs.{needs}
+use lib.ListN.{length}
+use Rattle.base_readers.specs.Readers.{run}
+use Rattle.base_readers.specs.Places.{Reaches}
+use Rattle.base_readers.proofs.Loops.{reaches-start, reaches-found, text-on}
+use Rattle.report_escape.specs.Internal.{verbatim}
+use Rattle.report_escape.proofs.verbatim_end.Statement.{statement}
+use Rattle.report_escape.proofs.verbatim_end.Tie as tie
+
+abbrev Inv-loop : tie.InvT-loop
+Inv-loop s at i₀ i = Reaches (run verbatim) s at i
+
+abbrev μ-loop : tie.MeasureT-loop
+μ-loop s at i₀ i = length s - i
+
+loop-holds : tie.Need-loop-holds Inv-loop μ-loop
+loop-holds c = reaches-start
+
+rest-requires : tie.Need-rest-requires Inv-loop μ-loop
+rest-requires c κs = search needs
+
+near-requires : tie.Need-near-requires Inv-loop μ-loop
+near-requires c κs = search needs
+
+returns : tie.Need-returns Inv-loop μ-loop
+returns c = search (reaches-found (run verbatim))
+
+has-stop-requires : tie.Need-has-stop-requires Inv-loop μ-loop
+has-stop-requires c κs = omega arith
+
+near-requires-2 : tie.Need-near-requires-2 Inv-loop μ-loop
+near-requires-2 c κs = search needs
+
+returns-2 : tie.Need-returns-2 Inv-loop μ-loop
+returns-2 c = search (reaches-found (run verbatim))
+
+add-i : tie.Need-add-i Inv-loop μ-loop
+add-i c = omega arith
+
+loop-less : tie.Need-loop-less Inv-loop μ-loop
+loop-less c = omega arith
+
+loop-again : tie.Need-loop-again Inv-loop μ-loop
+loop-again c = search (text-on verbatim)
+
+pub verbatim-end-spec : {M : Type 1} → statement M
+verbatim-end-spec =
+    tie.close
+    (tie.spec
+    Inv-loop
+    μ-loop
+    loop-holds
+    rest-requires
+    near-requires
+    returns
+    has-stop-requires
+    near-requires-2
+    returns-2
+    add-i
+    loop-less
+    loop-again)

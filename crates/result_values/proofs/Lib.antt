@@ -1,0 +1,5 @@
+pub mod DomainLabels
+pub mod ValueCases
+pub mod ValueGot
+pub mod ValueExamples
+pub mod Headlines

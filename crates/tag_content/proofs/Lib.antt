@@ -1,0 +1,3 @@
+pub mod ChainValues
+pub mod TagsRead
+pub mod TagLists

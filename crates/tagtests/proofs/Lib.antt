@@ -1,2 +1,0 @@
-pub mod TagsRead
-pub mod TagLists

@@ -1,0 +1,20 @@
+// Whether two runs of bytes are the same, byte by byte.
+ghost use mathlib.Core.Path.{_≡_};
+ghost use Rattle.base_readers.specs.Texts.{same};
+
+// The same length, and the same byte at each place.
+pub fn is_same(a: &[u8], b: &[u8]) -> bool
+    ensures { λ r. ⌜ r ≡ same (now (a .entry)) (now (b .entry)) ⌝ }
+{
+    if a.len() != b.len() {
+        return false;
+    }
+    let mut i: usize = 0;
+    while i < a.len() {
+        if a[i] != b[i] {
+            return false;
+        }
+        i += 1;
+    }
+    true
+}

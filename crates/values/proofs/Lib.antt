@@ -1,4 +1,0 @@
-pub mod ValueCases
-pub mod ValueGot
-pub mod ValueExamples
-pub mod Headlines
