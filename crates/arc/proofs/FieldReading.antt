@@ -1,4 +1,4 @@
--- What the code reads of a field is what the field says. Assumes nothing.
+-- What the code reads of a field is what the field says.
 use Prim.Native.Nat.{ℕ, _≤_}
 use mathlib.Core.Path.{_≡_, refl, sym, ap, _∙_}
 use mathlib.Core.Bool.{Bool, true, false}

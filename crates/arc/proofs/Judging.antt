@@ -1,5 +1,4 @@
 -- The answers about a chain, one law for each way out of the code: the tests on the way are those of the definitions, in their order.
--- Assumes nothing.
 use Prim.Native.Nat.{ℕ, zero, suc, _-_, _≤_}
 use native.Mathlib.Omega.{arith}
 use mathlib.Core.Path.{_≡_, refl, sym, _∙_}

@@ -1,6 +1,6 @@
 -- One field noted: it takes its place, is repeated, can't be read or is of another kind, and what the code leaves is what the definition
 -- says. Then all fields, one turn of the loop at a time. An instance that reads is from 1 to 50, so the highest gathered from nothing is at
--- most 50, and storing keeps the lengths of the table. Assumes nothing.
+-- most 50, and storing keeps the lengths of the table.
 use Prim.Native.Nat.{ℕ, suc, _+_, _-_, _≤_, _<_}
 use native.Mathlib.Numerals.{add-one}
 use native.Mathlib.Omega.{arith}

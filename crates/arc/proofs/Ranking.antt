@@ -1,5 +1,5 @@
 -- The tests of a chain by the place that a loop has reached: at each place what is left answers as the whole. Each law
--- takes one step of a definition; the premises are what a need is handed. Assumes nothing.
+-- takes one step of a definition; the premises are what a need is handed.
 use Prim.Native.Nat.{ℕ, suc, _+_, _≤_, _<_}
 use native.Mathlib.Numerals.{add-one}
 use native.Mathlib.Omega.{arith}

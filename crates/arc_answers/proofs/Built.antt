@@ -1,4 +1,4 @@
--- The answer of a chain that is built. Assumes nothing.
+-- The answer of a chain that is built.
 use Prim.Native.Nat.{ℕ}
 use mathlib.Core.Path.{_≡_, sym, _∙_}
 use mathlib.Core.Bool.{Bool, true, false, not}

@@ -1,4 +1,4 @@
--- Verdicts read by loops: all seals, bytes from 0 to 3, the oldest pass. Assumes nothing.
+-- Verdicts read by loops: all seals, bytes from 0 to 3, the oldest pass.
 use Prim.Native.Nat.{ℕ, zero, suc, _+_, _-_, _≤_, _<_, _%_}
 use native.Mathlib.Numerals.{add-one}
 use native.Mathlib.Omega.{arith}

@@ -1,6 +1,5 @@
 -- The kind of a field by the tests of the code, and the instance: what the code finds at a place is what the parser yields there. A byte
 -- with the space before it is a reader, so that the parser goes on behind it; one or two digits are worth the number that they write.
--- Assumes nothing.
 use Prim.Native.Nat.{ℕ, suc, _+_, _-_, _*_, _≤_, _<_}
 use native.Mathlib.Omega.{arith}
 use mathlib.Core.Path.{_≡_, refl, sym, _∙_}

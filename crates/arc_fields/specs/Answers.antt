@@ -1,4 +1,4 @@
--- What the code's answers say. Assumes nothing: these are definitions.
+-- What the code's answers say.
 use Prim.Native.Nat.{ℕ}
 use Rattle.base_readers.specs.Parsers.{Got, nothing, got}
 use Rattle.arc_fields.specs.declared.Instance.{Instance}

@@ -1,6 +1,6 @@
 -- A chain is built exactly where its fields are accepted: the tests of an outcome hold exactly at sets with no empty place and the
 -- prescribed chain values up to the highest instance, by cases in their order and by induction on rows and values; what the sets say of
--- the fields is the invariant of gathering. The outcome is none only where there is no ARC field. Assumes nothing.
+-- the fields is the invariant of gathering. The outcome is none only where there is no ARC field.
 use Prim.Native.Nat.{ℕ, zero, suc, _-_, _≤_, _<_, suc-le-suc}
 use native.Mathlib.Nat.{le-of-suc-le-suc, not-suc-le-zero}
 use native.Mathlib.Omega.{arith}

@@ -1,6 +1,5 @@
 -- The answer on a block by its cases, in the order of the answers: too many bytes, a refusal of the walk, and the outcome of its fields
--- with the verdicts. Then what a block without ARC fields gathers, by induction on the fields, and when the answer is 10. Assumes
--- nothing.
+-- with the verdicts. Then what a block without ARC fields gathers, by induction on the fields, and when the answer is 10.
 use Prim.Native.Nat.{ℕ, zero, suc, _≤_}
 use native.Mathlib.Omega.{arith}
 use mathlib.Core.Path.{_≡_, refl, sym, ap, _∙_}

@@ -1,5 +1,4 @@
 -- The chain at worked examples of whole blocks, computed from their bytes: each outcome, with two and three sets too, and the verdicts.
--- Assumes nothing.
 use Prim.Native.Nat.{ℕ}
 use mathlib.Core.Path.{refl}
 use mathlib.Core.List.{List, [], _∷_, _++_}

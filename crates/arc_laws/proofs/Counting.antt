@@ -1,6 +1,6 @@
 -- Kinds, instances, and the fields of a kind at an instance counted: an instance that reads is from 1 to 50; a field stands at its own
 -- place and at no other, and one more field adds to the count there; a count is not 0 exactly where there is such a field. By cases on
--- kinds and on what a field says, and by induction on the fields. Assumes nothing.
+-- kinds and on what a field says, and by induction on the fields.
 use Prim.Native.Nat.{ℕ, zero, suc, _+_, _≤_, _<_}
 use native.Mathlib.Nat.{not-suc-le-zero}
 use native.Mathlib.Omega.{arith}

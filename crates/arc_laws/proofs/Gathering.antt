@@ -1,6 +1,5 @@
 -- What the table of places says of the fields that were gathered into it, in whatever order they came: an invariant that every field
 -- keeps, by cases on whether it is an ARC field, whether it reads and whether its place is taken; then by induction on the fields.
--- Assumes nothing.
 use Prim.Native.Nat.{ℕ, suc, _-_, _≤_, _<_, zero-le}
 use native.Mathlib.Omega.{arith}
 use mathlib.Core.Path.{_≡_, refl, sym, ap, _∙_}

@@ -1,5 +1,5 @@
 -- What judging promises beyond its contract. Each theorem is about the definitions that the contract of `arc::judge` cites; the first is
--- demand 2's sentence on chains, with an instance of its use. Assumes nothing.
+-- demand 2's sentence on chains, with an instance of its use.
 use Prim.Native.Nat.{ℕ, _≤_}
 use mathlib.Core.Path.{_≡_, refl, sym, ap, _∙_}
 use mathlib.Core.Bool.{true, false}

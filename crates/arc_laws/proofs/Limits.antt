@@ -1,4 +1,4 @@
--- The chain of a block of as many fields as there may be, and of one more, computed. Assumes nothing.
+-- The chain of a block of as many fields as there may be, and of one more, computed.
 use mathlib.Core.Path.{_≡_, refl}
 use mathlib.Core.List.{[], _∷_, _++_}
 use Rattle.base_readers.specs.Texts.{bytes}

@@ -1,5 +1,5 @@
 -- The table of places and the chain values with one more field stored: its own place changes and no other does, and fifty rows of three
--- stay. By cases on the place and the kind. Assumes nothing.
+-- stay. By cases on the place and the kind.
 use Prim.Native.Nat.{ℕ, _-_, _<_}
 use native.Mathlib.Omega.{arith}
 use mathlib.Core.Path.{_≡_, refl, _∙_}

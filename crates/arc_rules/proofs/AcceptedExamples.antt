@@ -1,5 +1,5 @@
 -- What demand 2's sentence on chains speaks of, at worked examples: the parts computed, and for each clause fields that are not accepted
--- because of it. Assumes nothing.
+-- because of it.
 use Prim.Native.Nat.{ℕ, _+_, _≤_}
 use native.Mathlib.Omega.{arith}
 use mathlib.Core.Path.{_≡_, refl}

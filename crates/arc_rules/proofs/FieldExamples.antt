@@ -1,5 +1,4 @@
 -- One field of a chain at worked examples, computed: kinds, instances, and what each kind of field says, with neighbours on the other side.
--- Assumes nothing.
 use Prim.Native.Nat.{ℕ}
 use mathlib.Core.Path.{refl}
 use mathlib.Core.List.{[], _∷_}

@@ -1,4 +1,4 @@
--- Every definition of a chain opened at once: `unfolding opened` lets a proof compute with all of them. Assumes nothing.
+-- Every definition of a chain opened at once: `unfolding opened` lets a proof compute with all of them.
 use Rattle.lexis_rules.specs.Pieces.{decimal}
 use Rattle.block_rules.proofs.Examples as block
 use Rattle.tag_rules.proofs.Opened as tags

@@ -1,5 +1,5 @@
 -- Chains at worked examples, computed: the places of fifty instances, each outcome with its order, the verdicts, and the answers in order.
--- The tables are small, so that an error shows the two sides. Assumes nothing.
+-- The tables are small, so that an error shows the two sides.
 use Prim.Native.Nat.{ℕ, zero, suc}
 use mathlib.Core.Path.{_≡_, refl}
 use mathlib.Core.Bool.{true, false}

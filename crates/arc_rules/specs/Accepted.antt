@@ -1,6 +1,5 @@
 -- Demand 2's sentence on chains: an ARC structure is accepted exactly when every ARC field reads, and instances 1 to N, N from 1 to 50,
 -- each have one field of each kind and the chain values RFC 8617 prescribes. Said of the fields themselves, not of the table of places.
--- Assumes nothing: these are definitions.
 use Prim.Native.Nat.{ℕ, _≤_, _<_}
 use mathlib.Core.Path.{_≡_}
 use mathlib.Core.Bool.{Bool, true, false, cond, _&&_}

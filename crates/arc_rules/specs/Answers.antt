@@ -1,4 +1,4 @@
--- What the code's answers say. Assumes nothing: these are definitions.
+-- What the code's answers say.
 use Rattle.arc_rules.specs.declared.Judged.{Judged}
 use Rattle.arc_rules.specs.Chain.{Answer}
 

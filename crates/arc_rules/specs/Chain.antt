@@ -1,5 +1,4 @@
--- Document 01, "The chain": fifty instances with three places each, the outcome, the verdicts, and the answer. Assumes nothing: these are
--- definitions.
+-- Document 01, "The chain": fifty instances with three places each, the outcome, the verdicts, and the answer.
 use Prim.Native.Nat.{ℕ, zero, suc, _-_, _%_}
 use mathlib.Core.Bool.{Bool, true, false, cond, _&&_, _||_}
 use mathlib.Core.List.{List, [], _∷_}

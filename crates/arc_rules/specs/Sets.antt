@@ -1,4 +1,4 @@
--- Document 01, "The chain": the three kinds of field, and what each says. Assumes nothing: these are definitions.
+-- Document 01, "The chain": the three kinds of field, and what each says.
 use Prim.Native.Char.{code}
 use Prim.Native.Nat.{ℕ}
 use mathlib.Core.Bool.{Bool, true, false, not, cond, _&&_}

@@ -1,4 +1,4 @@
--- What the theorems on judging speak of. Assumes nothing: these are definitions.
+-- What the theorems on judging speak of.
 use Prim.Native.Nat.{ℕ, _≤_}
 use mathlib.Core.Path.{_≡_}
 use mathlib.Core.Bool.{false}

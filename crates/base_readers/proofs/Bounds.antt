@@ -1,5 +1,4 @@
 -- What each parser takes is there, and is at least so much, from the same of its parts, by what is known of the parts where it succeeds.
--- Assumes nothing.
 use Prim.Native.Nat.{ℕ, zero, suc, _+_, _≤_, zero-le}
 use native.Mathlib.Nat.{le-of-suc-le-suc}
 use native.Mathlib.Omega.{arith}

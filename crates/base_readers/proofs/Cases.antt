@@ -1,4 +1,4 @@
--- Tables of worked examples: each pairs a text with what is said of it, and `Says` is proved by computing. Assumes nothing.
+-- Tables of worked examples: each pairs a text with what is said of it, and `Says` is proved by computing.
 use Prim.Native.Nat.{ℕ, zero, suc}
 use mathlib.Core.Path.{_≡_}
 use mathlib.Core.List.{List, [], _∷_, map}

@@ -1,5 +1,5 @@
 -- What a reader takes goes by the bytes that it takes and by what comes next, and by nothing behind that. Each law is by induction on
--- the part p that two lists share. Assumes nothing.
+-- the part p that two lists share.
 use Prim.Native.Nat.{ℕ, zero, suc, _+_, _≤_, _<_, zero-le, suc-le-suc}
 use native.Mathlib.Nat.{add-zero, le-of-suc-le-suc, not-suc-le-zero}
 use native.Mathlib.Numerals.{add-one}

@@ -1,6 +1,5 @@
 -- Loops that end where a reader ends: the invariant `Reaches`, one turn, and the end. The premises of the laws at the end of each part
 -- are literally what a need is handed (the invariant, what a call ensures, what a test says of its answer), so that `search` finds them.
--- Assumes nothing.
 use Prim.Native.Nat.{ℕ, zero, suc, _+_, _-_, _≤_, _<_, _^_}
 use native.Mathlib.Nat.{add-zero}
 use native.Mathlib.Omega.{arith}

@@ -1,5 +1,4 @@
 -- Where a parser succeeds, a condition holds that its first part that takes something needs, by what is known of the parts where it succeeds.
--- Assumes nothing.
 use Prim.Native.Nat.{ℕ, zero, suc}
 use mathlib.Core.Path.{_≡_, refl, sym, _∙_}
 use mathlib.Core.Bool.{Bool, true, false}

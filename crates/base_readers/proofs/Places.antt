@@ -1,4 +1,4 @@
--- What parsers give at a place of a list, from the facts that code has there, by moving what they give in front of the rest. Assumes nothing.
+-- What parsers give at a place of a list, from the facts that code has there, by moving what they give in front of the rest.
 use Prim.Native.Nat.{ℕ, zero, suc, _+_, _-_, _≤_, _<_}
 use native.Mathlib.Omega.{arith}
 use mathlib.Core.Path.{_≡_, refl, sym, ap, _∙_}

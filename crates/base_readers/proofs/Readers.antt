@@ -1,4 +1,4 @@
--- What each reader takes, case by case, and that it takes no more than there is. Assumes nothing.
+-- What each reader takes, case by case, and that it takes no more than there is.
 use Prim.Native.Nat.{ℕ, zero, suc, _+_, _≤_, _<_, zero-le, suc-le-suc}
 use native.Mathlib.Nat.{zero-add, le-of-suc-le-suc, not-suc-le-zero}
 use native.Mathlib.Omega.{arith}

@@ -1,5 +1,4 @@
 -- A repetition always succeeds, and is one turn and then a repetition or else the end, on lists and at places, by induction on the list.
--- Assumes nothing.
 use Prim.Native.Nat.{ℕ, zero, suc, _+_, _-_, _≤_, _<_}
 use native.Mathlib.Nat.{not-suc-le-zero}
 use native.Mathlib.Omega.{arith}

@@ -1,5 +1,4 @@
 -- What each parser gives where its parts are known, and what is known of its parts where it gives something, by cases on what the parts give.
--- Assumes nothing.
 use Prim.Native.Nat.{ℕ, zero, suc, _+_}
 use native.Mathlib.Nat.{zero-add}
 use native.Mathlib.Omega.{arith}

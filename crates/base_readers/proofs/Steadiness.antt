@@ -1,5 +1,5 @@
 -- What a parser reads inside w it reads whatever follows w, from the same of its parts, by cutting w where the parts meet; for a repetition by
--- induction on the length of w. Assumes nothing.
+-- induction on the length of w.
 use Prim.Native.Nat.{ℕ, zero, suc, _≤_}
 use native.Mathlib.Nat.{le-refl}
 use native.Mathlib.Omega.{arith}

@@ -1,5 +1,4 @@
 -- Classes given by a list of bytes, texts compared byte by byte, and what comes next. Each law is by cases on the list.
--- Assumes nothing.
 use Prim.Native.Nat.{ℕ, zero, suc, _≤_, _<_, zero-le, suc-le-suc}
 use native.Mathlib.Omega.{arith}
 use mathlib.Core.Path.{_≡_, refl, sym, ap, _∙_}

@@ -1,4 +1,4 @@
--- A walk goes on with each item and ends at a refusal or at the end, by induction on the bytes of an item. Assumes nothing.
+-- A walk goes on with each item and ends at a refusal or at the end, by induction on the bytes of an item.
 use Prim.Native.Nat.{ℕ, zero, suc, _+_, _-_, _<_}
 use native.Mathlib.Nat.{add-zero, add-suc, suc-add}
 use native.Mathlib.Omega.{arith}

@@ -1,4 +1,4 @@
--- What hangs on what: bounds, and how far what follows can change what is read. Assumes nothing: these are definitions.
+-- What hangs on what: bounds, and how far what follows can change what is read.
 use Prim.Native.Nat.{ℕ, suc, _≤_}
 use mathlib.Core.Path.{_≡_}
 use mathlib.Core.Bool.{Bool, true}

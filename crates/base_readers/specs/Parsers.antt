@@ -1,5 +1,4 @@
 -- Parsers. A parser gives a value and how many bytes of the front of a list it takes, or nothing.
--- Assumes nothing: these are definitions.
 use Prim.Native.Nat.{ℕ, zero, suc, _+_}
 use mathlib.Core.Bool.{Bool, true, false}
 use mathlib.Core.List.{List, [], _∷_}

@@ -1,4 +1,4 @@
--- Readers and parsers at a place of a list, for code that walks it. Assumes nothing: these are definitions.
+-- Readers and parsers at a place of a list, for code that walks it.
 use Prim.Native.Nat.{ℕ, _+_}
 use mathlib.Core.Path.{_≡_}
 use mathlib.Core.List.{List, [], _∷_}

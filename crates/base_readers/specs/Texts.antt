@@ -1,4 +1,4 @@
--- Bytes and texts. Assumes nothing: these are definitions.
+-- Bytes and texts.
 use Prim.Native.Nat.{ℕ}
 use Prim.Native.Char.{code}
 use Prim.Native.String.{String}

@@ -1,4 +1,4 @@
--- One walk from the front, item by item, up to the end or the first refusal. Assumes nothing: these are definitions.
+-- One walk from the front, item by item, up to the end or the first refusal.
 use Prim.Native.Nat.{ℕ, zero, suc, _-_}
 use mathlib.Core.List.{List, [], _∷_}
 

@@ -1,4 +1,4 @@
--- Tests and their facts. Assumes nothing.
+-- Tests and their facts.
 use Prim.Native.Nat.{ℕ, zero, _≤_}
 use native.Mathlib.Omega.{arith}
 use mathlib.Core.Path.{_≡_, refl, sym, ap, _∙_}

@@ -1,4 +1,4 @@
--- Texts stored one after the other, with places that stop at the largest one. Assumes nothing.
+-- Texts stored one after the other, with places that stop at the largest one.
 use Prim.Native.Nat.{ℕ, _+_, _-_, _≤_, _<_, min}
 use native.Mathlib.Omega.{arith}
 use mathlib.Core.Path.{_≡_, refl, sym, ap, _∙_}

@@ -1,4 +1,4 @@
--- The bytes from a place up to another: where there are none, and where fewer stand inside. Assumes nothing.
+-- The bytes from a place up to another: where there are none, and where fewer stand inside.
 use Prim.Native.Nat.{ℕ, _-_, _≤_, _<_}
 use native.Mathlib.Omega.{arith}
 use mathlib.Core.Path.{_≡_, refl, sym, _∙_}

@@ -1,5 +1,4 @@
 -- Text stored in a lent buffer, `sets l i vs` of `lib.Seq`: a store past the end leaves the list as it is, so no law asks for room.
--- Assumes nothing.
 use Prim.Native.Nat.{ℕ, zero, suc, _+_, _-_, _≤_, _<_}
 use native.Mathlib.Nat.{add-zero, zero-add, add-suc, suc-add}
 use native.Mathlib.Numerals.{add-one}

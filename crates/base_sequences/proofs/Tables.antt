@@ -1,5 +1,5 @@
 -- A rule that holds at every entry of a table, or at every number below a bound, because one test that antt computes holds at all of
--- them. Assumes nothing.
+-- them.
 use Prim.Native.Nat.{ℕ, zero, suc, _+_, _-_, _≤_, _<_}
 use native.Mathlib.Nat.{add-zero, zero-add, add-suc, suc-add, le-of-suc-le-suc, not-suc-le-zero}
 use native.Mathlib.Omega.{arith}

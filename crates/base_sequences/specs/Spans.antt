@@ -1,4 +1,4 @@
--- Parts of a list by places. Assumes nothing: these are definitions.
+-- Parts of a list by places.
 use Prim.Native.Nat.{ℕ, _-_}
 use mathlib.Core.List.{List}
 use lib.ListN.{take, drop}

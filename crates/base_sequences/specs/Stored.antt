@@ -1,4 +1,4 @@
--- Text stored in a lent buffer. Assumes nothing: these are definitions.
+-- Text stored in a lent buffer.
 use Prim.Native.Nat.{ℕ, _+_, min}
 use mathlib.Core.Path.{_≡_}
 use mathlib.Core.List.{List}

@@ -1,5 +1,4 @@
 -- A step of `next_field` is a step of the definition's walk over the fields, so that any loop over it meets the fields of the definition.
--- Assumes nothing.
 use Prim.Native.Nat.{ℕ}
 use mathlib.Core.Path.{_≡_}
 use mathlib.Core.List.{List}

@@ -1,5 +1,5 @@
 -- Names, labels and fields at places of a slice, with premises as a need is handed them: what a call ensures of its answer, and what a
--- test says of that. Each law opens one definition. Assumes nothing.
+-- test says of that. Each law opens one definition.
 use Prim.Native.Char.{code}
 use Prim.Native.Nat.{ℕ, suc, _+_, _-_, _≤_, _<_}
 use native.Mathlib.Omega.{arith}

@@ -1,5 +1,4 @@
 -- A step of `next_field` is a step of the walk over the fields: what each of its answers tells, by cases of what stands at the place.
--- Assumes nothing.
 use Prim.Native.Nat.{ℕ, _+_, _-_, _≤_, _<_, zero-le, suc-le-suc}
 use native.Mathlib.Numerals.{add-one}
 use native.Mathlib.Omega.{arith}

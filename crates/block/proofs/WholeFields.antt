@@ -1,4 +1,4 @@
--- The field that was found whole, at e, is the one that stands there. Assumes nothing.
+-- The field that was found whole, at e, is the one that stands there.
 use Prim.Native.Nat.{ℕ, zero, suc, _+_, _≤_, _<_}
 use native.Mathlib.Omega.{arith}
 use mathlib.Core.Path.{_≡_, refl, sym, ap}

@@ -1,4 +1,4 @@
--- What the code's answers say: one step of the walk over the fields, at places of the slice. Assumes nothing: these are definitions.
+-- What the code's answers say: one step of the walk over the fields, at places of the slice.
 use Prim.Native.Nat.{ℕ, _+_}
 use mathlib.Core.Bool.{true, false}
 use mathlib.Core.List.{List, [], _∷_}

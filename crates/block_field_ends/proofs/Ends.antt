@@ -1,5 +1,5 @@
 -- A field whose lines are all whole: what is known of it, and the same field from a place inside one of its lines. What lacks a CRLF behind
--- such a place lacks it before. Assumes nothing.
+-- such a place lacks it before.
 use Prim.Native.Char.{code}
 use Prim.Native.Nat.{ℕ, zero, suc, _+_}
 use native.Mathlib.Omega.{arith}

@@ -1,4 +1,4 @@
--- The end of a field at worked examples, computed. Assumes nothing.
+-- The end of a field at worked examples, computed.
 use mathlib.Core.Path.{refl}
 use mathlib.Core.List.{[], _∷_}
 use Rattle.base_readers.specs.Texts.{bytes, oneOf}

@@ -1,5 +1,5 @@
 -- From place to place of a field: past one byte of the text, past a CRLF with a further line behind it, and to the last CRLF. From each such
--- place on a field ends where it ends from the first, or it has no end from either. Assumes nothing.
+-- place on a field ends where it ends from the first, or it has no end from either.
 use Prim.Native.Char.{code}
 use Prim.Native.Nat.{ℕ, zero, suc, _+_, _≤_, _<_}
 use native.Mathlib.Nat.{add-zero}

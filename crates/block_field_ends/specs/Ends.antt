@@ -1,4 +1,4 @@
--- The end of a field whose lines are all whole. Assumes nothing: these are definitions.
+-- The end of a field whose lines are all whole.
 use mathlib.Core.Bool.{cond}
 use lib.ListN.{getD}
 use Rattle.base_readers.specs.Readers.{Reader}

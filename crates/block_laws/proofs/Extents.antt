@@ -1,5 +1,5 @@
 -- The extent of a field from a place inside one of its lines: past a byte of the line's text, past a CRLF with a further line behind it, and
--- at the last CRLF; and where a line lacks its CRLF. Assumes nothing.
+-- at the last CRLF; and where a line lacks its CRLF.
 use Prim.Native.Char.{code}
 use Prim.Native.Nat.{ℕ, zero, suc, _+_, _≤_}
 use native.Mathlib.Omega.{arith}

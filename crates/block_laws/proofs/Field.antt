@@ -1,5 +1,5 @@
 -- A field that was read stands by itself: it is read from its own bytes, whatever follows them that starts no further line. This is the
--- locality of its line, its label and its further lines. Assumes nothing.
+-- locality of its line, its label and its further lines.
 use Prim.Native.Char.{code}
 use Prim.Native.Nat.{ℕ, zero, suc, _+_, _-_, _≤_, _<_, zero-le}
 use native.Mathlib.Nat.{add-zero, not-suc-le-zero}

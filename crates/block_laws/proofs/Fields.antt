@@ -1,5 +1,5 @@
 -- The fields of a block that is not refused are its bytes, and the bytes of sound fields walk back to exactly these fields; so with those
--- of the fields that pass a test. By induction on the block and on the fields. Assumes nothing.
+-- of the fields that pass a test. By induction on the block and on the fields.
 use Prim.Native.Nat.{ℕ, zero, suc, _+_, _-_, _≤_, _<_, zero-le, suc-le-suc}
 use native.Mathlib.Nat.{le-of-suc-le-suc, not-suc-le-zero}
 use native.Mathlib.Omega.{arith}

@@ -1,4 +1,4 @@
--- The laws of lines and labels, and the cases of a field. Assumes nothing.
+-- The laws of lines and labels, and the cases of a field.
 use Prim.Native.Char.{code}
 use Prim.Native.Nat.{ℕ, zero, suc, _+_, zero-le}
 use native.Mathlib.Omega.{arith}

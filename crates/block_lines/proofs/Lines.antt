@@ -1,4 +1,4 @@
--- Lines at a place of a block, by the tests that the code makes in turn. Assumes nothing.
+-- Lines at a place of a block, by the tests that the code makes in turn.
 use Prim.Native.Char.{code}
 use Prim.Native.Nat.{ℕ, _+_, _-_, _<_, _^_}
 use native.Mathlib.Omega.{arith}

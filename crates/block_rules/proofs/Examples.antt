@@ -1,4 +1,4 @@
--- The fields of a block at worked examples, computed. Assumes nothing.
+-- The fields of a block at worked examples, computed.
 use Prim.Native.Nat.{ℕ}
 use mathlib.Core.Path.{_≡_, refl}
 use mathlib.Core.List.{List, [], _∷_, map}

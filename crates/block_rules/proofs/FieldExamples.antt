@@ -1,4 +1,4 @@
--- Lines, names and bodies at worked examples, and the bytes that they may hold, computed. Assumes nothing.
+-- Lines, names and bodies at worked examples, and the bytes that they may hold, computed.
 use Prim.Native.Nat.{ℕ}
 use mathlib.Core.Path.{_≡_, refl}
 use mathlib.Core.Bool.{true, false}

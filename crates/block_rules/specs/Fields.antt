@@ -1,4 +1,4 @@
--- Document 01, "Block and list": the fields of a block, and answers 2 to 4. Assumes nothing: these are definitions.
+-- Document 01, "Block and list": the fields of a block, and answers 2 to 4.
 use Prim.Native.Char.{code}
 use Prim.Native.Nat.{ℕ, zero, suc, _+_, _-_}
 use mathlib.Core.Bool.{Bool, true, false, not, cond, _&&_}

@@ -1,4 +1,4 @@
--- What it is for a field to stand by itself. Assumes nothing: these are definitions.
+-- What it is for a field to stand by itself.
 use Prim.Native.Nat.{ℕ, _+_, _≤_, _<_}
 use mathlib.Core.Path.{_≡_}
 use mathlib.Core.Bool.{true, false}

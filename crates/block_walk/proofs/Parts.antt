@@ -1,6 +1,5 @@
 -- A reader taken apart: what it owns is had twice, since it is Copy; one is kept whole, and of the other what the block owns goes, with the place
 -- and the lifetime's token, to a callee that is handed a block and a place. The walks of the methods that call one cite this.
--- Assumes nothing.
 use mathlib.Core.Path.{_≡_, refl}
 use Prim.Native.Nat.{_<_, _^_}
 use mathlib.Core.List.{List, [], _∷_}

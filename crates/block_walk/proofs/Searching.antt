@@ -1,5 +1,5 @@
 -- The loop of `step_from`: before each turn, what the rest of the walk gives from the place on is what the whole walk gives. One law for
--- each way through the loop. Assumes nothing.
+-- each way through the loop.
 use Prim.Native.Nat.{ℕ, _+_, _-_, _≤_, _<_, zero-le}
 use native.Mathlib.Omega.{arith}
 use mathlib.Core.Path.{_≡_, sym, _∙_}

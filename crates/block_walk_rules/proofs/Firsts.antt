@@ -1,5 +1,5 @@
 -- What a block gives, and the first of some fields that starts at a place or later: one law for each case of the definitions, and fields
--- that are passed because they start before the place. Assumes nothing.
+-- that are passed because they start before the place.
 use Prim.Native.Nat.{ℕ, _+_, _≤_, _<_}
 use native.Mathlib.Nat.{add-zero, zero-add, add-assoc}
 use native.Mathlib.Omega.{arith}

@@ -1,5 +1,5 @@
 -- What a block gives stands in it: its fields are sound, 512 at most, and their bytes are a front of the block; its last answer is one of 0 to
--- 4. By induction on the block. Assumes nothing.
+-- 4. By induction on the block.
 use Prim.Native.Nat.{ℕ, zero, suc, _+_, _-_, _≤_, _<_, zero-le}
 use native.Mathlib.Nat.{le-of-suc-le-suc, not-suc-le-zero}
 use native.Mathlib.Omega.{arith}

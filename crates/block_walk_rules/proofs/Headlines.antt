@@ -1,5 +1,5 @@
 -- What the reader promises beyond its contracts. Each theorem is about the definitions that the contracts of `block_walk::field_from` and of
--- `Fields` cite. Assumes nothing.
+-- `Fields` cite.
 use Prim.Native.Nat.{ℕ, zero, suc, _+_, _≤_, _<_}
 use native.Mathlib.Nat.{zero-add}
 use native.Mathlib.Omega.{arith}

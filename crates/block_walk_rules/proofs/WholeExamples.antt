@@ -1,5 +1,5 @@
 -- What the theorems on whole walks speak of, at worked examples: fields in order, fields that start before a place, and the first one that
--- starts there or later, with what each is not. Assumes nothing.
+-- starts there or later, with what each is not.
 use Prim.Native.Nat.{_≤_, _<_}
 use native.Mathlib.Omega.{arith}
 use mathlib.Core.Path.{_≡_, refl}

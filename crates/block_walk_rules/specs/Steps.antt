@@ -1,4 +1,4 @@
--- Document 01, "What the library is handed": what a reader that holds a block and its place gives. Assumes nothing: these are definitions.
+-- Document 01, "What the library is handed": what a reader that holds a block and its place gives.
 use Prim.Native.Nat.{ℕ, _+_}
 use mathlib.Core.Bool.{true, false}
 use mathlib.Core.List.{List, [], _∷_}

@@ -1,4 +1,4 @@
--- What a host meets that walks a whole block, as the theorems say it. Assumes nothing: these are definitions.
+-- What a host meets that walks a whole block, as the theorems say it.
 use Prim.Native.Nat.{ℕ, zero, suc, _+_, _≤_, _<_}
 use mathlib.Core.Path.{_≡_}
 use mathlib.Core.List.{List, [], _∷_, _++_}

@@ -1,4 +1,4 @@
--- The answers of the report of a block, one law for each way out of the code. Assumes nothing.
+-- The answers of the report of a block, one law for each way out of the code.
 use Prim.Native.Nat.{ℕ, zero, suc, _≤_, _<_}
 use native.Mathlib.Omega.{arith}
 use mathlib.Core.Path.{_≡_, refl, sym, ap, _∙_}

@@ -1,4 +1,4 @@
--- The loop over the fields: what is left of the block answers as the whole, and adds what is left of the text. Assumes nothing.
+-- The loop over the fields: what is left of the block answers as the whole, and adds what is left of the text.
 use Prim.Native.Nat.{ℕ, suc, _+_, _-_, _*_, _≤_, zero-le}
 use native.Mathlib.Numerals.{add-one}
 use native.Mathlib.Omega.{arith}

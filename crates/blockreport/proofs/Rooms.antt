@@ -1,4 +1,4 @@
--- Texts that are written where there is room for all of them: what a field adds, and in a loop what all fields add. Assumes nothing.
+-- Texts that are written where there is room for all of them: what a field adds, and in a loop what all fields add.
 use Prim.Native.Nat.{ℕ, _+_, _≤_, min}
 use native.Mathlib.Omega.{arith}
 use mathlib.Core.Path.{_≡_, refl, sym, ap, _∙_}

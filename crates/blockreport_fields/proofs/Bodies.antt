@@ -1,4 +1,4 @@
--- The report of a body, written in place or copied, behind the line of its field: one law for each way out of the code. Assumes nothing.
+-- The report of a body, written in place or copied, behind the line of its field: one law for each way out of the code.
 use Prim.Native.Nat.{ℕ, _+_, _-_, _≤_, _<_, _^_, min}
 use native.Mathlib.Omega.{arith}
 use mathlib.Core.Path.{_≡_, refl, sym, ap, _∙_}

@@ -1,4 +1,4 @@
--- What other crates use: for a body within the limit a field adds what the definition of the report says, and with room for all of it all of it is stored. Assumes nothing.
+-- What other crates use: for a body within the limit a field adds what the definition of the report says, and with room for all of it all of it is stored.
 use Prim.Native.Nat.{ℕ, _+_, _≤_, _<_}
 use native.Mathlib.Omega.{arith}
 use mathlib.Core.Path.{_≡_, refl, sym, ap, _∙_}

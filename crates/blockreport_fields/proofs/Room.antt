@@ -1,4 +1,4 @@
--- Texts that are stored where there is room for all of them. Assumes nothing.
+-- Texts that are stored where there is room for all of them.
 use Prim.Native.Nat.{ℕ, _+_, _≤_, _<_, min}
 use native.Mathlib.Omega.{arith}
 use mathlib.Core.Path.{_≡_, refl, sym, ap, _∙_}

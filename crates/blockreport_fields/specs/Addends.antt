@@ -1,4 +1,4 @@
--- What a field adds to the report of a block, for bodies of any length, and what writing it leaves in a buffer of any length. Assumes nothing: these are definitions.
+-- What a field adds to the report of a block, for bodies of any length, and what writing it leaves in a buffer of any length.
 use Prim.Native.Nat.{ℕ, _+_, min}
 use mathlib.Core.Bool.{true, false}
 use mathlib.Core.List.{List, []}

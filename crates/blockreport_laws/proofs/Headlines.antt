@@ -1,5 +1,4 @@
 -- What the report of a block promises beyond its contract. Each theorem is about the definition that the contract of `blockreport::reports` cites.
--- Assumes nothing.
 use Prim.Native.Nat.{ℕ, _+_, _*_, _≤_}
 use native.Mathlib.Omega.{arith}
 use mathlib.Core.Path.{_≡_}

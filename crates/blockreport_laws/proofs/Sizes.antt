@@ -1,4 +1,4 @@
--- How long the lines of a field can be: the line of its number by its columns, and its report by the length of its body. Assumes nothing.
+-- How long the lines of a field can be: the line of its number by its columns, and its report by the length of its body.
 use Prim.Native.Nat.{ℕ, zero, suc, _+_, _*_, _/_, _%_, _≤_}
 use native.Mathlib.Omega.{arith}
 use mathlib.Core.Path.{_≡_, refl}

@@ -1,4 +1,4 @@
--- Where the same is said of whose each identifier is, the report of a block is the same. Assumes nothing.
+-- Where the same is said of whose each identifier is, the report of a block is the same.
 use Prim.Native.Nat.{ℕ, zero, suc}
 use mathlib.Core.Path.{_≡_, refl, ap}
 use mathlib.Core.Bool.{Bool, true, false}

@@ -1,4 +1,4 @@
--- The words and the columns of a field's line: stored one after another they are the line stored. Assumes nothing.
+-- The words and the columns of a field's line: stored one after another they are the line stored.
 use Prim.Native.Nat.{ℕ, _<_, _^_}
 use native.Mathlib.Omega.{arith}
 use mathlib.Core.Path.{_≡_}

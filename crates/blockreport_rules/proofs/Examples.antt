@@ -1,5 +1,5 @@
 -- The report of a block at worked examples, computed: what each field adds, the numbers of the fields, the answers in order, and what is left in the
--- lent buffer. Assumes nothing.
+-- lent buffer.
 use Prim.Native.Nat.{ℕ}
 use mathlib.Core.Path.{_≡_, refl}
 use mathlib.Core.List.{List, [], _∷_, _++_, map}

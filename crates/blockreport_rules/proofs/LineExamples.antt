@@ -1,4 +1,4 @@
--- Numbers and the lines of fields at worked examples, computed. Assumes nothing.
+-- Numbers and the lines of fields at worked examples, computed.
 use mathlib.Core.Path.{_≡_, refl}
 use mathlib.Core.List.{[], _∷_, map}
 use Rattle.base_readers.specs.Texts.{bytes}

@@ -1,4 +1,4 @@
--- Every definition of the report of a block opened at once: `unfolding opened` lets a proof compute with all of them. Assumes nothing.
+-- Every definition of the report of a block opened at once: `unfolding opened` lets a proof compute with all of them.
 use Rattle.block_rules.proofs.Examples as block
 use Rattle.identifier_rules.proofs.Examples as authserv
 use Rattle.report_rules.proofs.Opened as body

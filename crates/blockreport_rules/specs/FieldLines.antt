@@ -1,4 +1,4 @@
--- The line that a report of a block has for a field. Assumes nothing: these are definitions.
+-- The line that a report of a block has for a field.
 use Prim.Native.Nat.{ℕ}
 use mathlib.Core.List.{List, [], _∷_}
 use Rattle.base_readers.specs.Texts.{bytes}

@@ -1,4 +1,4 @@
--- The report of a header block: what each field adds, and the answers in order. Assumes nothing: these are definitions.
+-- The report of a header block: what each field adds, and the answers in order.
 use Prim.Native.Nat.{ℕ, zero, suc}
 use mathlib.Core.Bool.{true, false}
 use mathlib.Core.List.{List, [], _∷_, _++_}

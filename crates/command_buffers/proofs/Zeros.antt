@@ -1,4 +1,4 @@
--- So many zeros, and how many they are: by the law on their count, without counting them. Assumes nothing.
+-- So many zeros, and how many they are: by the law on their count, without counting them.
 use Prim.Native.Nat.{ℕ}
 use mathlib.Core.Path.{_≡_, refl, sym, ap, _∙_}
 use mathlib.Core.List.{List}

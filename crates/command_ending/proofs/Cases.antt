@@ -1,4 +1,4 @@
--- The outcome of a call, case by case, and the length of a line. Assumes nothing.
+-- The outcome of a call, case by case, and the length of a line.
 use Prim.Native.Nat.{ℕ, _+_, _≤_, _<_, min}
 use native.Mathlib.Nat.{zero-add}
 use mathlib.Core.Path.{_≡_, ap, _∙_}

@@ -1,4 +1,4 @@
--- How a call of the command ends. Assumes nothing: these are definitions.
+-- How a call of the command ends.
 use Prim.Native.Nat.{ℕ}
 use mathlib.Core.Path.{_≡_}
 use mathlib.Core.Bool.{Bool, true, false}

@@ -1,4 +1,4 @@
--- What can be said of a transfer, though not what is read or written. Assumes nothing: these are definitions.
+-- What can be said of a transfer, though not what is read or written.
 use Prim.Native.Nat.{ℕ}
 use mathlib.Core.Path.{_≡_}
 use mathlib.Core.Bool.{Bool, true, false}

@@ -1,5 +1,5 @@
 -- What a number means and what is wrong with an entry, stored: the words of each case of the definition are a phrase of the text. The premises are literally what a need
--- is handed. Assumes nothing.
+-- is handed.
 use Prim.Native.Nat.{ℕ, zero, suc, _+_, _-_, _≤_, _<_, _^_}
 use native.Mathlib.Omega.{arith}
 use mathlib.Core.Path.{_≡_, refl, sym}

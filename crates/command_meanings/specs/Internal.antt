@@ -1,4 +1,4 @@
--- The phrases of the meanings, and the place of a number among them, for private functions. No public contract cites these. Assumes nothing: these are definitions.
+-- The phrases of the meanings, and the place of a number among them, for private functions. No public contract cites these.
 use Prim.Native.Nat.{ℕ}
 use mathlib.Core.Bool.{cond}
 use mathlib.Core.List.{List}

@@ -1,4 +1,4 @@
--- The parts of a line, stored one after another, are the line stored. The premises are literally what a need is handed. Assumes nothing.
+-- The parts of a line, stored one after another, are the line stored. The premises are literally what a need is handed.
 use Prim.Native.Nat.{ℕ, _<_, _^_}
 use native.Mathlib.Omega.{arith}
 use mathlib.Core.Path.{_≡_, refl, ap, _∙_, subst}

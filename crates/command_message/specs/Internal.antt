@@ -1,5 +1,5 @@
 -- The lines of the endings that have no number or place of their own, as one text, and which of them tells an ending, for private functions. No
--- public contract cites these. Assumes nothing: these are definitions.
+-- public contract cites these.
 use Prim.Native.Nat.{ℕ}
 use mathlib.Core.List.{List}
 use Rattle.base_readers.specs.Texts.{bytes}

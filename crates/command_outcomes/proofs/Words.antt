@@ -1,4 +1,4 @@
--- What is said in words, and what a judgement is refused with. Assumes nothing.
+-- What is said in words, and what a judgement is refused with.
 use Prim.Native.Nat.{ℕ, min}
 use native.Mathlib.Nat.{zero-add}
 use mathlib.Core.Path.{_≡_, sym, ap, _∙_, subst}

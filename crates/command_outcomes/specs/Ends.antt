@@ -1,4 +1,4 @@
--- How each subcommand ends, by what its call answered and the room of its output. Assumes nothing: these are definitions.
+-- How each subcommand ends, by what its call answered and the room of its output.
 use Prim.Native.Nat.{ℕ, min}
 use mathlib.Core.Bool.{cond}
 use mathlib.Core.List.{List}

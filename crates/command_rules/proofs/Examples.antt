@@ -1,4 +1,4 @@
--- What is asked for, and the lines, at worked examples, by computing them. Assumes nothing.
+-- What is asked for, and the lines, at worked examples, by computing them.
 use Prim.Native.Nat.{ℕ, zero, suc}
 use mathlib.Core.Path.{_≡_, refl}
 use mathlib.Core.List.{List, [], _∷_, _++_}

@@ -1,4 +1,4 @@
--- Loops over the bytes of a list: up to the next LF, and counting those before a place. Assumes nothing.
+-- Loops over the bytes of a list: up to the next LF, and counting those before a place.
 use Prim.Native.Nat.{ℕ, suc, _+_, _-_, _≤_, _<_}
 use native.Mathlib.Numerals.{add-one}
 use native.Mathlib.Omega.{arith}

@@ -1,4 +1,4 @@
--- Every line of an ending fits 256 bytes. Assumes nothing.
+-- Every line of an ending fits 256 bytes.
 use Prim.Native.Nat.{ℕ, _+_, _≤_, _<_, _^_}
 use native.Mathlib.Omega.{arith}
 use mathlib.Core.Path.{_≡_, refl, ap}

@@ -1,4 +1,4 @@
--- The definitions by their cases: what is asked for, what is wrong with an entry, what a number means. Assumes nothing.
+-- The definitions by their cases: what is asked for, what is wrong with an entry, what a number means.
 use Prim.Native.Nat.{ℕ, _+_, _≤_, _<_}
 use mathlib.Core.Path.{_≡_}
 use mathlib.Core.Bool.{Bool, true, false}

@@ -1,6 +1,5 @@
 -- The one line on standard error with which the command ends: its name, a number and what that means; behind a refusal the place. 0 is said
 -- where all of the output has been written. The numbers below 64 are those of 01 and 02, the others are the command's own (sysexits.h).
--- Assumes nothing: these are definitions.
 use Prim.Native.Char.{code}
 use Prim.Native.Nat.{ℕ, suc}
 use mathlib.Core.Bool.{Bool, true, false, not}

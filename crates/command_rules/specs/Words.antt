@@ -1,4 +1,4 @@
--- What the words of a call ask for: `strip LIST`, `report LIST`, `explain LIST`, `judge VERDICTS` or `write`. Assumes nothing: these are definitions.
+-- What the words of a call ask for: `strip LIST`, `report LIST`, `explain LIST`, `judge VERDICTS` or `write`.
 use Prim.Native.Nat.{ℕ}
 use mathlib.Core.Bool.{true, false, cond}
 use mathlib.Core.List.{List}

@@ -1,4 +1,4 @@
--- What a call answers for the room of its buffer is what it answers for that many bytes. Assumes nothing.
+-- What a call answers for the room of its buffer is what it answers for that many bytes.
 use Prim.Native.Nat.{ℕ, _-_}
 use native.Mathlib.Omega.{arith}
 use mathlib.Core.Path.{_≡_, sym, ap, _∙_, subst}

@@ -1,4 +1,4 @@
--- The lines of a report in words, stored one after another. The premises are literally what a need is handed. Assumes nothing.
+-- The lines of a report in words, stored one after another. The premises are literally what a need is handed.
 use Prim.Native.Nat.{ℕ, suc, _+_, _≤_, _<_, _^_, min}
 use native.Mathlib.Omega.{arith}
 use mathlib.Core.Path.{_≡_, refl, sym, ap, _∙_}

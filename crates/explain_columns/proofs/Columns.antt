@@ -1,4 +1,4 @@
--- The columns of a line as the code finds them, and their texts stored. The premises are literally what a need is handed. Assumes nothing.
+-- The columns of a line as the code finds them, and their texts stored. The premises are literally what a need is handed.
 use Prim.Native.Nat.{ℕ, suc, _+_, _-_, _≤_, _<_, _^_}
 use native.Mathlib.Numerals.{add-one}
 use native.Mathlib.Omega.{arith}

@@ -1,4 +1,4 @@
--- Any byte but one. Assumes nothing: this is a definition.
+-- Any byte but one.
 use Prim.Native.Nat.{ℕ}
 use mathlib.Core.Bool.{Bool, not}
 use lib.Dec.{eqb}

@@ -1,5 +1,5 @@
 -- The words of the line of a field, stored: each case of a definition is a phrase of its function's text, and the parts one after another. The premises are literally what a need
--- is handed. Assumes nothing.
+-- is handed.
 use Prim.Native.Nat.{ℕ, _<_, _^_}
 use native.Mathlib.Omega.{arith}
 use mathlib.Core.Path.{_≡_, refl, sym, _∙_}

@@ -1,4 +1,4 @@
--- What private functions say of each other. No public contract cites these. Assumes nothing: these are definitions.
+-- What private functions say of each other. No public contract cites these.
 use Prim.Native.Nat.{ℕ}
 use mathlib.Core.Bool.{cond}
 use mathlib.Core.List.{List, _++_}

@@ -1,5 +1,4 @@
 -- The words of a line, stored: the parts one after another, and each case of a definition. The premises are literally what a need is handed.
--- Assumes nothing.
 use Prim.Native.Nat.{ℕ, _<_, _^_}
 use native.Mathlib.Omega.{arith}
 use mathlib.Core.Path.{_≡_, refl}

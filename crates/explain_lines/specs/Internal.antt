@@ -1,4 +1,4 @@
--- The labels of a line with one column, for private functions. No public contract cites these. Assumes nothing: this is a definition.
+-- The labels of a line with one column, for private functions. No public contract cites these.
 use Prim.Native.Nat.{ℕ}
 use mathlib.Core.List.{List}
 use Rattle.base_readers.specs.Texts.{bytes}

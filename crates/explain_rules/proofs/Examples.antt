@@ -1,4 +1,4 @@
--- What is said of a report, at worked examples, by computing it. Assumes nothing.
+-- What is said of a report, at worked examples, by computing it.
 use mathlib.Core.Path.{_≡_, refl}
 use mathlib.Core.List.{[], _∷_}
 use Rattle.base_readers.specs.Texts.{bytes, within, same}

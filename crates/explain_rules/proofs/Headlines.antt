@@ -1,4 +1,4 @@
--- What holds of what is said of any report, of any bytes. Assumes nothing.
+-- What holds of what is said of any report, of any bytes.
 use Prim.Native.Nat.{ℕ, _+_, _*_, _≤_, _<_}
 use native.Mathlib.Omega.{arith}
 use mathlib.Core.Path.{_≡_, refl}

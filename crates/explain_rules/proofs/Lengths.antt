@@ -1,4 +1,4 @@
--- How long what is said is: a line adds at most our own words for its kind to its own bytes. Assumes nothing.
+-- How long what is said is: a line adds at most our own words for its kind to its own bytes.
 use Prim.Native.Nat.{ℕ, suc, _+_, _*_, _≤_}
 use native.Mathlib.Omega.{arith}
 use mathlib.Core.Path.{_≡_, refl}

@@ -1,5 +1,4 @@
 -- Every byte of what is said is one that a terminal can be shown: our own words by computing them, texts because any other byte is shown as "?".
--- Assumes nothing.
 use Prim.Native.Nat.{ℕ, _≤_, _<_, zero, suc}
 use native.Mathlib.Omega.{arith}
 use native.Mathlib.Nat.{le-of-suc-le-suc}

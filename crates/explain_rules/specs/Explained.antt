@@ -1,6 +1,6 @@
 -- What a report says to a person: the lines of the report of a block (blockreport_rules), in words. Each field has a line that says whose word it is
 -- and what is not shown of it, then one with its identifier, and one for each result with its reason and its properties. No text of a report has
--- a space, so none can look like a part that it is not. Assumes nothing: these are definitions.
+-- a space, so none can look like a part that it is not.
 use Prim.Native.Char.{code}
 use Prim.Native.Nat.{ℕ, suc}
 use mathlib.Core.Bool.{Bool, true, false, cond, not}

@@ -1,4 +1,4 @@
--- What the theorems on `explained` speak of. Assumes nothing: these are definitions.
+-- What the theorems on `explained` speak of.
 use Prim.Native.Char.{code}
 use Prim.Native.Nat.{ℕ, _+_}
 use mathlib.Core.Bool.{Bool, true, false, cond, _||_}

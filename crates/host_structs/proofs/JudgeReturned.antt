@@ -1,4 +1,4 @@
--- The struct for hosts that is made from the struct of the call has what the call's definition says, field by field. Assumes nothing.
+-- The struct for hosts that is made from the struct of the call has what the call's definition says, field by field.
 use mathlib.Core.Path.{_≡_}
 use Rattle.arc_rules.specs.declared.Judged.{Judged}
 use Rattle.arc_rules.specs.Chain as arc

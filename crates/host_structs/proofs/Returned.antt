@@ -1,4 +1,4 @@
--- A struct for hosts that is made from the struct of a call has what the call's definition says, field by field. Assumes nothing.
+-- A struct for hosts that is made from the struct of a call has what the call's definition says, field by field.
 use mathlib.Core.Path.{_≡_}
 use Rattle.strip_rules.specs.declared.Stripped.{Stripped}
 use Rattle.strip_rules.specs.Strip as strip

@@ -1,4 +1,4 @@
--- What the functions for hosts return, by the definitions of the library's calls. Assumes nothing: these are definitions.
+-- What the functions for hosts return, by the definitions of the library's calls.
 use lib.ListN.{length}
 use Rattle.strip_rules.specs.Strip as strip
 use Rattle.report_rules.specs.Report as report

@@ -1,5 +1,4 @@
--- What the function for hosts returns of a chain, by the definition of the library's call, and by the struct that the call returns. Assumes
--- nothing: these are definitions.
+-- What the function for hosts returns of a chain, by the definition of the library's call, and by the struct that the call returns.
 use Prim.Native.Nat.{ℕ}
 use mathlib.Core.Bool.{cond}
 use lib.Dec.{eqb}

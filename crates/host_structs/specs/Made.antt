@@ -1,4 +1,4 @@
--- The structs for hosts, made from the structs that the library's calls return. Assumes nothing: these are definitions.
+-- The structs for hosts, made from the structs that the library's calls return.
 use Rattle.strip_rules.specs.declared.Stripped.{Stripped}
 use Rattle.report_rules.specs.declared.Reported.{Reported}
 use Rattle.write_rules.specs.declared.Written.{Written}

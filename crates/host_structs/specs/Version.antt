@@ -1,4 +1,4 @@
--- The library's version, as the file VERSION has it: the gate compares the two. Assumes nothing: these are definitions.
+-- The library's version, as the file VERSION has it: the gate compares the two.
 use Prim.Native.Nat.{ℕ, _+_, _*_}
 
 abbrev pub major : ℕ

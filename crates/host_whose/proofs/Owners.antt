@@ -1,4 +1,4 @@
--- The answers of `whose`, one law for each way out of the code. Assumes nothing.
+-- The answers of `whose`, one law for each way out of the code.
 use Prim.Native.Nat.{ℕ}
 use mathlib.Core.Path.{_≡_, sym, ap, _∙_}
 use mathlib.Core.Bool.{Bool, true, false}

@@ -1,4 +1,4 @@
--- What `whose` says and what stripping does are the same thing, for every good list and every body that is not too long. Assumes nothing.
+-- What `whose` says and what stripping does are the same thing, for every good list and every body that is not too long.
 use Prim.Native.Nat.{ℕ, _≤_}
 use mathlib.Core.Path.{_≡_, refl}
 use mathlib.Core.Bool.{Bool, true, false, not}

@@ -1,4 +1,4 @@
--- Whose the identifier of a body is, at worked examples, computed. Assumes nothing.
+-- Whose the identifier of a body is, at worked examples, computed.
 use Prim.Native.Nat.{ℕ}
 use mathlib.Core.Path.{_≡_, refl}
 use mathlib.Core.List.{List, [], _∷_, _++_, map}

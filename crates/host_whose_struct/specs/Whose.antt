@@ -1,4 +1,4 @@
--- Whose the identifier of a body is, with the answers in stripping's order. Assumes nothing: these are definitions.
+-- Whose the identifier of a body is, with the answers in stripping's order.
 use Prim.Native.Nat.{ℕ, zero, suc}
 use mathlib.Core.Bool.{true, false}
 use mathlib.Core.List.{List}

@@ -1,5 +1,4 @@
--- The identifier, by the tests that the code makes in turn; and what the code finds is what the parser of identifiers yields. Assumes
--- nothing.
+-- The identifier, by the tests that the code makes in turn; and what the code finds is what the parser of identifiers yields.
 use Prim.Native.Nat.{ℕ, zero, suc, _+_, _-_, _≤_}
 use native.Mathlib.Nat.{zero-add}
 use native.Mathlib.Omega.{arith}

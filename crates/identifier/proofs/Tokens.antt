@@ -1,4 +1,4 @@
--- The token of an identifier: any token, and then bytes from 128 up and token bytes. Assumes nothing.
+-- The token of an identifier: any token, and then bytes from 128 up and token bytes.
 use Prim.Native.Nat.{ℕ, _+_, _≤_, _<_}
 use native.Mathlib.Omega.{arith}
 use mathlib.Core.Path.{_≡_, refl, sym, _∙_}

@@ -1,4 +1,4 @@
--- What the code's answers say. Assumes nothing: these are definitions.
+-- What the code's answers say.
 use Prim.Native.Char.{code}
 use Prim.Native.Nat.{ℕ, _+_, _-_}
 use mathlib.Core.Bool.{Bool, true, false}

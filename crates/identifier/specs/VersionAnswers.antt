@@ -1,4 +1,4 @@
--- What the answer says. Assumes nothing: these are definitions.
+-- What the answer says.
 use Prim.Native.Nat.{ℕ, zero, suc, _+_, _-_}
 use mathlib.Core.List.{List}
 use mathlib.Core.Option.{Option, none, some}

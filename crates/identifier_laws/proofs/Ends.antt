@@ -1,4 +1,4 @@
--- Bytes cut where their lines end are their lines: all of them, and those of the first ends. By one line after the other. Assumes nothing.
+-- Bytes cut where their lines end are their lines: all of them, and those of the first ends. By one line after the other.
 use Prim.Native.Nat.{ℕ, zero, suc, _+_, _-_, _≤_, _<_, min}
 use native.Mathlib.Omega.{arith}
 use mathlib.Core.Path.{_≡_, refl, ap, _∙_}

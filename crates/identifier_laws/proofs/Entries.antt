@@ -1,4 +1,4 @@
--- What holds of an entry of our own list, and of the whole list's answer. Assumes nothing.
+-- What holds of an entry of our own list, and of the whole list's answer.
 use Prim.Native.Char.{code}
 use Prim.Native.Nat.{ℕ, zero, suc, _+_, _-_, _≤_, zero-le}
 use native.Mathlib.Omega.{arith}

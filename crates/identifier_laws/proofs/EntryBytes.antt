@@ -1,4 +1,4 @@
--- The bytes of an entry: visible ones and those from 128 up. Assumes nothing.
+-- The bytes of an entry: visible ones and those from 128 up.
 use Prim.Native.Nat.{ℕ, zero, suc, _≤_, _<_, zero-le, suc-le-suc}
 use native.Mathlib.Omega.{arith}
 use mathlib.Core.Path.{_≡_, refl}

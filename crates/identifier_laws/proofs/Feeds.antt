@@ -1,4 +1,4 @@
--- The lines of any bytes, one after the other; and the lines of texts that were each ended by LF are these texts. Assumes nothing.
+-- The lines of any bytes, one after the other; and the lines of texts that were each ended by LF are these texts.
 use Prim.Native.Nat.{ℕ, suc, _<_, zero-le, suc-le-suc}
 use native.Mathlib.Omega.{arith}
 use mathlib.Core.Path.{_≡_, refl, sym, ap, _∙_}

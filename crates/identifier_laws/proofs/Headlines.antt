@@ -1,5 +1,5 @@
 -- 02, ticket [2]: what holds of the equality of identifiers, and of our own list as it is compared. Each theorem with premises has an instance
--- below it. Assumes nothing.
+-- below it.
 use Prim.Native.Char.{code}
 use Prim.Native.Nat.{ℕ}
 use mathlib.Core.Path.{_≡_, refl, sym, ap, _∙_}

@@ -1,5 +1,4 @@
 -- Our own list as it is compared: which lines it has, that an identifier is among them where it is among the entries, and how long it is.
--- Assumes nothing.
 use Prim.Native.Nat.{ℕ, zero, suc, _+_, _-_, _*_, _≤_, _<_}
 use native.Mathlib.Omega.{arith}
 use mathlib.Core.Path.{_≡_, refl, sym, ap, _∙_}

@@ -1,4 +1,4 @@
--- The spelling of a text that is two texts with "." between them is their spellings with "." between them. Assumes nothing.
+-- The spelling of a text that is two texts with "." between them is their spellings with "." between them.
 use Prim.Native.Nat.{ℕ}
 use mathlib.Core.Path.{_≡_, refl, sym, ap, _∙_}
 use mathlib.Core.Bool.{Bool, true, false}

@@ -1,4 +1,4 @@
--- 02, ticket [2]: RFC 3629, section 4, at every byte behind the first, computed. Assumes nothing.
+-- 02, ticket [2]: RFC 3629, section 4, at every byte behind the first, computed.
 use Prim.Native.Nat.{ℕ}
 use mathlib.Core.Path.{_≡_, refl}
 use mathlib.Core.List.{[], _∷_}

@@ -1,4 +1,4 @@
--- Identifiers, their equality and header versions at worked examples, computed. Assumes nothing.
+-- Identifiers, their equality and header versions at worked examples, computed.
 use Prim.Native.Nat.{ℕ}
 use mathlib.Core.Path.{_≡_, refl}
 use mathlib.Core.Bool.{true, false}

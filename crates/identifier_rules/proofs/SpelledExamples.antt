@@ -1,4 +1,4 @@
--- Whose an identifier is, by a list's entries and by its lines as they are compared, at worked examples, computed. Assumes nothing.
+-- Whose an identifier is, by a list's entries and by its lines as they are compared, at worked examples, computed.
 use Prim.Native.Nat.{ℕ}
 use mathlib.Core.Path.{_≡_, refl}
 use mathlib.Core.Bool.{true, false}

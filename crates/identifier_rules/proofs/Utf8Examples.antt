@@ -1,4 +1,4 @@
--- 02, ticket [2]: the bytes of an identifier and of a list's entry, and RFC 3629, section 4, byte by byte, computed. Assumes nothing.
+-- 02, ticket [2]: the bytes of an identifier and of a list's entry, and RFC 3629, section 4, byte by byte, computed.
 use Prim.Native.Nat.{ℕ}
 use mathlib.Core.Path.{_≡_, refl}
 use mathlib.Core.Bool.{Bool, true, false}

@@ -1,4 +1,4 @@
--- Where the lines of our own list end, so that they are found once for a whole block. Assumes nothing: these are definitions.
+-- Where the lines of our own list end, so that they are found once for a whole block.
 use Prim.Native.Char.{code}
 use Prim.Native.Nat.{ℕ, suc, _+_, _-_}
 use mathlib.Core.Bool.{Bool, not}

@@ -1,5 +1,4 @@
--- Document 01, "Identifier and header version": the identifier (RFC 8601, 2.2: authserv-id); 02, ticket [2]: with international labels. Assumes
--- nothing: these are definitions.
+-- Document 01, "Identifier and header version": the identifier (RFC 8601, 2.2: authserv-id); 02, ticket [2]: with international labels.
 use Prim.Native.Char.{code}
 use Prim.Native.Nat.{ℕ}
 use mathlib.Core.Bool.{Bool, _||_}

@@ -1,4 +1,4 @@
--- Whether an identifier is on a list. Assumes nothing: these are definitions.
+-- Whether an identifier is on a list.
 use Prim.Native.Nat.{ℕ}
 use mathlib.Core.Bool.{Bool, true, false, _||_}
 use mathlib.Core.List.{List, [], _∷_}

@@ -1,5 +1,4 @@
--- Document 01, "Block and list": our own list of identifiers, and answer 5; 02, ticket [2]: its entries in UTF-8. Assumes nothing: these are
--- definitions.
+-- Document 01, "Block and list": our own list of identifiers, and answer 5; 02, ticket [2]: its entries in UTF-8.
 use Prim.Native.Char.{code}
 use Prim.Native.Nat.{ℕ, zero, suc, _+_}
 use mathlib.Core.Bool.{true, false, cond, _&&_}

@@ -1,5 +1,4 @@
--- Our own list as it is compared: the spelling of each entry, ended by LF. It is made once for a whole block. Assumes nothing: these are
--- definitions.
+-- Our own list as it is compared: the spelling of each entry, ended by LF. It is made once for a whole block.
 use Prim.Native.Char.{code}
 use Prim.Native.Nat.{ℕ}
 use mathlib.Core.Bool.{Bool, true, false, _&&_, _||_}

@@ -1,4 +1,4 @@
--- RFC 3629, section 4: the byte sequences of UTF-8, from 128 up. Assumes nothing: these are definitions.
+-- RFC 3629, section 4: the byte sequences of UTF-8, from 128 up.
 use Prim.Native.Nat.{ℕ}
 use mathlib.Core.Bool.{Bool, true, false, cond, _&&_, _||_}
 use mathlib.Core.List.{List}

@@ -1,4 +1,4 @@
--- Document 01, "Identifier and header version": the header version. Assumes nothing: these are definitions.
+-- Document 01, "Identifier and header version": the header version.
 use Prim.Native.Nat.{ℕ}
 use mathlib.Core.List.{List}
 use mathlib.Core.Option.{Option, none, some}

@@ -1,4 +1,4 @@
--- A judgement, stored: its two lines one after another; and digits turned into verdicts. The premises are literally what a need is handed. Assumes nothing.
+-- A judgement, stored: its two lines one after another; and digits turned into verdicts. The premises are literally what a need is handed.
 use Prim.Native.Nat.{ℕ, zero, suc, _+_, _-_, _≤_, _<_, _^_}
 use native.Mathlib.Omega.{arith}
 use mathlib.Core.Path.{_≡_, refl, ap, _∙_}

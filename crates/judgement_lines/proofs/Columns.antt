@@ -1,5 +1,5 @@
 -- The columns of a judgement, stored: each word is a phrase of its function's text, and the columns one after another are the line. The premises are literally
--- what a need is handed. Assumes nothing.
+-- what a need is handed.
 use Prim.Native.Nat.{ℕ, zero, suc, _≤_, _<_, _^_}
 use native.Mathlib.Omega.{arith}
 use mathlib.Core.Path.{_≡_, refl, sym}

@@ -1,5 +1,5 @@
 -- The words of a judgement, stored: each case of the definitions is a phrase of its function's text, and texts that are stored one after another. The premises are
--- literally what a need is handed. Assumes nothing.
+-- literally what a need is handed.
 use Prim.Native.Nat.{ℕ, zero, suc, _≤_, _<_, _^_}
 use native.Mathlib.Omega.{arith}
 use mathlib.Core.Path.{_≡_, refl, sym}

@@ -1,4 +1,4 @@
--- The columns of a judgement in parts, which private functions write. No public contract cites these. Assumes nothing: these are definitions.
+-- The columns of a judgement in parts, which private functions write. No public contract cites these.
 use Prim.Native.Nat.{ℕ}
 use mathlib.Core.List.{List, _∷_, _++_}
 use Rattle.base_readers.specs.Texts.{bytes}

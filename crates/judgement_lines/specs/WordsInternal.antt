@@ -1,4 +1,4 @@
--- The words of a judgement in parts, which private functions write. No public contract cites these. Assumes nothing: these are definitions.
+-- The words of a judgement in parts, which private functions write. No public contract cites these.
 use Prim.Native.Nat.{ℕ}
 use mathlib.Core.Bool.{cond}
 use mathlib.Core.List.{List, [], _++_}

@@ -1,4 +1,4 @@
--- Judgements as they are written, at worked examples, by computing them. Assumes nothing.
+-- Judgements as they are written, at worked examples, by computing them.
 use Prim.Native.Nat.{ℕ}
 use mathlib.Core.Path.{_≡_, refl}
 use mathlib.Core.List.{List, [], _∷_, map}

@@ -1,4 +1,4 @@
--- What the command writes of a judgement (arc_rules): a line of columns, and the same in words. Assumes nothing: these are definitions.
+-- What the command writes of a judgement (arc_rules): a line of columns, and the same in words.
 use Prim.Native.Char.{code}
 use Prim.Native.Nat.{ℕ, _-_}
 use mathlib.Core.Bool.{cond}

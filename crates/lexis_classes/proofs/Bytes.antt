@@ -1,4 +1,4 @@
--- How the code keeps a class says which bytes are of it, by induction on the binary digits. Assumes nothing.
+-- How the code keeps a class says which bytes are of it, by induction on the binary digits.
 use Prim.Native.Nat.{ℕ, zero, suc, _+_, _-_, _*_, _/_, _%_, _^_, _≤_, _<_, zero-le, suc-le-suc}
 use native.Mathlib.Nat.{add-zero, add-suc, suc-add, not-suc-le-zero, le-of-suc-le-suc, pow-suc, mul-comm, div-one, div-div-eq-div-mul, add-mul-div-left, add-mul-mod-self-left, mod-eq-of-lt}
 use native.Mathlib.Omega.{arith}

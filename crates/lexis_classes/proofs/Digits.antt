@@ -1,4 +1,4 @@
--- The binary digits of each class, computed. Assumes nothing.
+-- The binary digits of each class, computed.
 use Prim.Native.Nat.{ℕ}
 use mathlib.Core.Path.{_≡_, refl, sym, ap, _∙_}
 use Rattle.base_readers.specs.Texts.{within, oneOf}

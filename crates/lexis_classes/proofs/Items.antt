@@ -1,4 +1,4 @@
--- One item, by the tests that the code makes in turn. Each law follows one way through the code. Assumes nothing.
+-- One item, by the tests that the code makes in turn. Each law follows one way through the code.
 use Prim.Native.Nat.{ℕ}
 use mathlib.Core.Path.{_≡_, refl, sym, ap, _∙_}
 use mathlib.Core.Bool.{Bool, true, false, _&&_}

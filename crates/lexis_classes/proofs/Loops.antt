@@ -1,4 +1,4 @@
--- The laws of items at a place of a slice, with premises as a need is handed them. Each is a law of `base_readers` at one reader. Assumes nothing.
+-- The laws of items at a place of a slice, with premises as a need is handed them. Each is a law of `base_readers` at one reader.
 use Prim.Native.Nat.{ℕ, _+_, _-_, _<_, _^_}
 use mathlib.Core.Path.{_≡_}
 use mathlib.Core.List.{List}

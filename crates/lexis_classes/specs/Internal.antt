@@ -1,5 +1,5 @@
 -- How the code keeps a class: a binary digit for each byte. No public contract cites these but that of `lexis_table::table::entry`, in
--- which `bitsOf` stands. Assumes nothing: these are definitions.
+-- which `bitsOf` stands.
 use Prim.Native.Nat.{ℕ, zero, suc, _+_, _*_}
 use mathlib.Core.Bool.{Bool, true, false, cond}
 use lib.Dec.{ltb}

@@ -1,5 +1,5 @@
 -- The laws of comments and what they hold at a place of a slice, with premises as a need is handed them: the invariant of the
--- loop, what a call ensures of its answer, and what a test says of that. Each is a law of `base_readers` at one reader. Assumes nothing.
+-- loop, what a call ensures of its answer, and what a test says of that. Each is a law of `base_readers` at one reader.
 use Prim.Native.Nat.{ℕ, _+_, _-_, _<_}
 use native.Mathlib.Omega.{arith}
 use mathlib.Core.Path.{_≡_, refl, sym, _∙_}

@@ -1,4 +1,4 @@
--- A fresh cursor, for private functions: no public contract cites this. Assumes nothing: this is a definition.
+-- A fresh cursor, for private functions: no public contract cites this.
 use Prim.Native.Nat.{ℕ}
 use Rattle.lexis_comments.specs.declared.Cursor.{Cursor}
 use Rattle.lexis_rules.specs.Limits.{depthLimit}

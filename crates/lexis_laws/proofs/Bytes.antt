@@ -1,4 +1,4 @@
--- Which bytes are in no class, and which can start no space. Assumes nothing.
+-- Which bytes are in no class, and which can start no space.
 use Prim.Native.Nat.{ℕ, zero, suc, _<_}
 use mathlib.Core.Path.{_≡_, refl, sym, _∙_}
 use mathlib.Core.Bool.{Bool, true, false, _&&_, _||_}

@@ -1,6 +1,5 @@
 -- How far what follows can change what a piece is: not at all behind a comment or a quoted string; else by what comes next, and the
 -- condition on that is the weakest one, for it holds behind every such piece. Each law is one of `base_readers` at the piece's combinators.
--- Assumes nothing.
 use Prim.Native.Char.{code}
 use Prim.Native.Nat.{ℕ, zero, suc, _≤_}
 use native.Mathlib.Nat.{not-suc-le-zero}

@@ -1,5 +1,5 @@
 -- A digit run's number is 1 exactly where the digits that count are the digit 1 alone: by induction on the run, whose number no further
--- digit makes smaller. Assumes nothing.
+-- digit makes smaller.
 use Prim.Native.Char.{code}
 use Prim.Native.Nat.{ℕ, zero, suc, _+_, _-_, _*_, _≤_, _<_, zero-le, suc-le-suc}
 use native.Mathlib.Omega.{arith}

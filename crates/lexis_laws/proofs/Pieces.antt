@@ -1,4 +1,4 @@
--- The pieces take no more than there is, and a comment is its brackets around its content. Assumes nothing.
+-- The pieces take no more than there is, and a comment is its brackets around its content.
 use Prim.Native.Char.{code}
 use Prim.Native.Nat.{ℕ, zero, suc, _+_, _-_, _≤_, _<_, zero-le}
 use native.Mathlib.Omega.{arith}

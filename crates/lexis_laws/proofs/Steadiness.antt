@@ -1,5 +1,5 @@
 -- The pieces as parsers: what each takes is there, what comes first where it succeeds, and what may follow it without changing it. These
--- are what the steadiness of larger parts is put together from. Each law is one of `base_readers` at the piece's reader. Assumes nothing.
+-- are what the steadiness of larger parts is put together from. Each law is one of `base_readers` at the piece's reader.
 use Prim.Native.Char.{code}
 use Prim.Native.Nat.{ℕ, zero, suc}
 use native.Mathlib.Omega.{arith}

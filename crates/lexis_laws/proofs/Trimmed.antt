@@ -1,6 +1,5 @@
 -- "Longest run of letters, digits and hyphens that doesn't end in a hyphen" can also be read as the longest part of the run that ends in
 -- no hyphen. The two readings differ only where a hyphen comes next, and no rule lets one follow a keyword. By induction on the run.
--- Assumes nothing.
 use Prim.Native.Nat.{ℕ, zero, suc, _+_, _-_, _≤_, _<_, zero-le, suc-le-suc}
 use native.Mathlib.Omega.{arith}
 use mathlib.Core.Path.{_≡_, refl, sym, ap, _∙_}

@@ -1,5 +1,5 @@
 -- A value at a place: a quoted string where the first byte is a quote, else a token; and its text is the one that the parser of values
--- yields, since the text of a quoted string hangs on nothing behind it. Assumes nothing.
+-- yields, since the text of a quoted string hangs on nothing behind it.
 use Prim.Native.Char.{code}
 use Prim.Native.Nat.{ℕ, zero, suc, _+_, _-_, _≤_, _<_}
 use native.Mathlib.Nat.{add-comm}

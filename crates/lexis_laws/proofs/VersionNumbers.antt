@@ -1,5 +1,5 @@
 -- 02, ticket [3]: the number of a digit run. Up to six digits that count make a number up to 999,999, and more a larger one; it is that of
--- the digits that count; and it is 1 exactly where the rule before it said so. By induction on the run. Assumes nothing.
+-- the digits that count; and it is 1 exactly where the rule before it said so. By induction on the run.
 use Prim.Native.Char.{code}
 use Prim.Native.Nat.{ℕ, zero, suc, _+_, _-_, _*_, _≤_, _<_, _^_}
 use native.Mathlib.Nat.{add-zero}

@@ -1,4 +1,4 @@
--- Each class of bytes as the list of all bytes in it, and the limits as numbers, computed. Assumes nothing.
+-- Each class of bytes as the list of all bytes in it, and the limits as numbers, computed.
 use Prim.Native.Nat.{ℕ, zero, suc, _+_, _-_}
 use mathlib.Core.Path.{_≡_, refl}
 use mathlib.Core.Bool.{Bool, true, false}

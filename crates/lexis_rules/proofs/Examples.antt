@@ -1,5 +1,5 @@
 -- The definitions at worked examples: each table pairs a text with what the document says of it, and the computed column is the stated
--- one. Assumes nothing.
+-- one.
 use Prim.Native.Char.{code}
 use Prim.Native.Nat.{ℕ, zero, suc}
 use mathlib.Core.Path.{_≡_, refl}

@@ -1,4 +1,4 @@
--- 02, ticket [3]: what a digit run tells, at worked examples, computed. Assumes nothing.
+-- 02, ticket [3]: what a digit run tells, at worked examples, computed.
 use mathlib.Core.Path.{refl}
 use mathlib.Core.Bool.{true, false}
 use mathlib.Core.List.{[], _∷_}

@@ -1,4 +1,4 @@
--- The small pieces as parsers that yield their texts, and the code's answers at a place, at worked examples, computed. Assumes nothing.
+-- The small pieces as parsers that yield their texts, and the code's answers at a place, at worked examples, computed.
 use mathlib.Core.Path.{_≡_, refl}
 use mathlib.Core.List.{[], _∷_, map}
 use Rattle.base_readers.specs.Texts.{bytes}

@@ -1,4 +1,4 @@
--- Classes of bytes. Assumes nothing: these are definitions.
+-- Classes of bytes.
 use Prim.Native.Char.{code}
 use Prim.Native.Nat.{ℕ, _+_}
 use mathlib.Core.Bool.{Bool, true, false, not, cond, _&&_, _||_}

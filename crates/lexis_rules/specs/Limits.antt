@@ -1,4 +1,4 @@
--- Limits. Assumes nothing: these are definitions.
+-- Limits.
 use Prim.Native.Nat.{ℕ}
 
 -- 01, What the library is handed: block or field body 65,536 bytes

@@ -1,4 +1,4 @@
--- 02, ticket [3], "Version numbers as numbers": what a digit run tells. Assumes nothing: these are definitions.
+-- 02, ticket [3], "Version numbers as numbers": what a digit run tells.
 use Prim.Native.Nat.{ℕ}
 use mathlib.Core.Bool.{Bool, true, false}
 use mathlib.Core.List.{List}

@@ -1,4 +1,4 @@
--- Document 01, "Small pieces of a body", as readers. Assumes nothing: these are definitions.
+-- Document 01, "Small pieces of a body", as readers.
 use Prim.Native.Char.{code}
 use Prim.Native.Nat.{ℕ, zero, suc, _+_, _-_, _*_}
 use mathlib.Core.Bool.{Bool, true, false, not, cond, _&&_}

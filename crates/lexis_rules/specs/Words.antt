@@ -1,4 +1,4 @@
--- The texts of the small pieces, and the pieces as parsers that yield them. Assumes nothing: these are definitions.
+-- The texts of the small pieces, and the pieces as parsers that yield them.
 use Prim.Native.Char.{code}
 use Prim.Native.Nat.{ℕ, _-_}
 use mathlib.Core.Bool.{true, false}

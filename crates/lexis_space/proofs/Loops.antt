@@ -1,4 +1,4 @@
--- The laws of space at a place of a slice, with premises as a need is handed them. Assumes nothing.
+-- The laws of space at a place of a slice, with premises as a need is handed them.
 use Prim.Native.Nat.{ℕ, _+_}
 use native.Mathlib.Omega.{arith}
 use mathlib.Core.Path.{_≡_, refl, sym, _∙_}

@@ -1,5 +1,4 @@
--- The arms of the table: what an arm gives is the entry of each of its bytes, and the last arm's of every byte that is in no other. Assumes
--- nothing.
+-- The arms of the table: what an arm gives is the entry of each of its bytes, and the last arm's of every byte that is in no other.
 use Prim.Native.Nat.{ℕ, zero, suc, _+_, _-_, _<_}
 use mathlib.Core.Path.{_≡_, refl, sym, ap, _∙_}
 use mathlib.Core.Bool.{Bool, true, false, _||_}

@@ -1,4 +1,4 @@
--- The entries of the table: a binary digit of one says whether its byte is of a class, and so where a run ends. Assumes nothing.
+-- The entries of the table: a binary digit of one says whether its byte is of a class, and so where a run ends.
 use Prim.Native.Nat.{ℕ, zero, suc, _+_, _-_, _*_, _/_, _%_, _^_, _≤_, _<_}
 use native.Mathlib.Nat.{zero-add, zero-mul, one-mul, pow-suc, mod-lt}
 use native.Mathlib.Omega.{arith}

@@ -1,5 +1,5 @@
 -- How the table (lexis_table) is asked whether a byte is of a class: by the binary digit of the class in the byte's entry. No public contract
--- cites these. Assumes nothing: these are definitions.
+-- cites these.
 use Prim.Native.Nat.{ℕ, _^_}
 use mathlib.Core.Bool.{Bool, not}
 use lib.Bits.{bitAnd}

@@ -1,5 +1,4 @@
--- The table of 256 entries: each class has a binary digit in the entries, which says of each byte whether it is of the class. Assumes nothing:
--- these are definitions.
+-- The table of 256 entries: each class has a binary digit in the entries, which says of each byte whether it is of the class.
 use Prim.Native.Nat.{ℕ}
 use mathlib.Core.List.{List, [], _∷_}
 use lib.ListN.{getD}

@@ -1,4 +1,4 @@
--- A keyword at a place of a slice: the run, and its last byte. Assumes nothing.
+-- A keyword at a place of a slice: the run, and its last byte.
 use Prim.Native.Nat.{ℕ, zero, suc, _+_, _-_, _≤_, _<_}
 use native.Mathlib.Omega.{arith}
 use mathlib.Core.Path.{_≡_, refl, sym, ap, _∙_}

@@ -1,5 +1,5 @@
 -- Whose an identifier is, by what the code finds of it; a list that was spelled tells as its entries do; and lines that are asked so many at a
--- time tell as all of them. Assumes nothing.
+-- time tell as all of them.
 use Prim.Native.Nat.{ℕ, suc, _+_, _-_, _≤_, _<_}
 use native.Mathlib.Numerals.{add-one}
 use native.Mathlib.Omega.{arith}

@@ -1,4 +1,4 @@
--- Whether a text is spelled as one of some lines: as it stands, spelled into a buffer, or written into one. Assumes nothing.
+-- Whether a text is spelled as one of some lines: as it stands, spelled into a buffer, or written into one.
 use Prim.Native.Nat.{ℕ, _+_, _*_, _≤_, _<_}
 use native.Mathlib.Omega.{arith}
 use mathlib.Core.Path.{_≡_, refl, sym, _∙_}

@@ -1,5 +1,4 @@
 -- Entries of our own list at places of a slice, and a step of the code's walk as a step of the list's, by cases of the definitions.
--- Assumes nothing.
 use Prim.Native.Char.{code}
 use Prim.Native.Nat.{ℕ, zero, suc, _+_, _-_, _≤_, _<_, zero-le, suc-le-suc}
 use native.Mathlib.Numerals.{add-one}

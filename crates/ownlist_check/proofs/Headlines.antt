@@ -1,4 +1,4 @@
--- What `check_list` answers is the list's number and place of document 01: 0, or 5 at the start of the first bad entry. Assumes nothing.
+-- What `check_list` answers is the list's number and place of document 01: 0, or 5 at the start of the first bad entry.
 use Prim.Native.Nat.{ℕ, zero, suc}
 use native.Mathlib.Omega.{arith}
 use mathlib.Core.Path.{_≡_, refl, sym, ap, _∙_}

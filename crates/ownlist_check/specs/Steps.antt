@@ -1,4 +1,4 @@
--- What the code's answers say: one step of the walk over the list, at places of the slice. Assumes nothing: these are definitions.
+-- What the code's answers say: one step of the walk over the list, at places of the slice.
 use Prim.Native.Nat.{ℕ, zero, suc, _+_, _-_}
 use mathlib.Core.List.{List, [], _∷_}
 use lib.ListN.{drop}

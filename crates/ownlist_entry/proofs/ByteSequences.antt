@@ -1,4 +1,4 @@
--- Sequences of UTF-8 and visible bytes, by the tests that the code makes in turn. Assumes nothing.
+-- Sequences of UTF-8 and visible bytes, by the tests that the code makes in turn.
 use Prim.Native.Nat.{ℕ, _≤_, _<_}
 use mathlib.Core.Path.{_≡_, refl, sym}
 use mathlib.Core.Bool.{Bool, true, false, cond, _&&_, _||_}

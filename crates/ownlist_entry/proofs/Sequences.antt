@@ -1,4 +1,4 @@
--- What a sequence of UTF-8 takes, and the text of an entry, as the loop of the code goes over it. Assumes nothing.
+-- What a sequence of UTF-8 takes, and the text of an entry, as the loop of the code goes over it.
 use Prim.Native.Nat.{ℕ, _+_, _-_, _≤_, _<_, zero-le, _^_}
 use native.Mathlib.Omega.{arith}
 use mathlib.Core.Path.{_≡_, refl, _∙_}

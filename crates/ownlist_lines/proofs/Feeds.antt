@@ -1,4 +1,4 @@
--- Where the lines of any bytes end, as the loops find it. Assumes nothing.
+-- Where the lines of any bytes end, as the loops find it.
 use Prim.Native.Nat.{ℕ, _+_, _≤_, _<_}
 use native.Mathlib.Numerals.{add-one}
 use native.Mathlib.Omega.{arith}

@@ -1,4 +1,4 @@
--- What is asked of lines that end at places. Assumes nothing.
+-- What is asked of lines that end at places.
 use Prim.Native.Nat.{ℕ, suc, _+_, _-_, _≤_, _<_, min}
 use native.Mathlib.Numerals.{add-one}
 use native.Mathlib.Omega.{arith}

@@ -1,4 +1,4 @@
--- Every list as it is compared fits the room. Assumes nothing.
+-- Every list as it is compared fits the room.
 use Prim.Native.Nat.{ℕ, _≤_}
 use native.Mathlib.Omega.{arith}
 use mathlib.Core.Path.{_≡_}

@@ -1,4 +1,4 @@
--- What the writer of spellings leaves; an entry, and a list that is spelled entry by entry. Assumes nothing.
+-- What the writer of spellings leaves; an entry, and a list that is spelled entry by entry.
 use Prim.Native.Nat.{ℕ, _+_, _-_, _*_, _≤_, _<_}
 use native.Mathlib.Omega.{arith}
 use mathlib.Core.Path.{_≡_, refl, sym, _∙_}

@@ -1,6 +1,6 @@
 -- Demand 1: any bytes may be handed in, and each call ends; a refusal gives its number exactly when its rule says so, has zero counts, and leaves
 -- the lent buffer as it was. That a call ends on all bytes is proved with its function: none has a precondition. Here is when it gives
--- which number, with which place (01, Answer numbers), for every block, list, body, lines, verdicts and buffer. Assumes nothing.
+-- which number, with which place (01, Answer numbers), for every block, list, body, lines, verdicts and buffer.
 use Prim.Native.Nat.{ℕ, _+_, _≤_, _<_}
 use mathlib.Core.Path.{_≡_, refl}
 use mathlib.Core.Bool.{true}

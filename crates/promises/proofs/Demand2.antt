@@ -1,5 +1,5 @@
 -- Demand 2: the report of a field, the stripped block and the judgement of a chain are those of RFC 8601, RFC 8617 and document 01. Each theorem
--- stands under the sentence that it proves, with examples. Assumes nothing.
+-- stands under the sentence that it proves, with examples.
 use Prim.Native.Nat.{ℕ, _+_, _*_, _≤_, _<_}
 use native.Mathlib.Omega.{arith}
 use mathlib.Core.Path.{_≡_, refl, sym, ap, _∙_}

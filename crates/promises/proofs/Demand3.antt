@@ -1,5 +1,5 @@
 -- Demand 3: an old reader never misreads a newer writer. Both halves are of the whole call, its answer and what it leaves in the lent buffer,
--- whatever room is lent, the same each time; each has an instance. Assumes nothing.
+-- whatever room is lent, the same each time; each has an instance.
 use Prim.Native.Nat.{ℕ, suc, _*_}
 use mathlib.Core.Path.{_≡_, refl}
 use mathlib.Core.List.{List, [], _∷_, List·Memᴰ}

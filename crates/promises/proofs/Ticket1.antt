@@ -1,4 +1,4 @@
--- 02, ticket [1], "Write our own field": what is promised of the written field. When it is refused is in Demand1. Assumes nothing.
+-- 02, ticket [1], "Write our own field": what is promised of the written field. When it is refused is in Demand1.
 use Prim.Native.Nat.{ℕ, _≤_}
 use mathlib.Core.Path.{_≡_, refl}
 use mathlib.Core.List.{List, _++_}

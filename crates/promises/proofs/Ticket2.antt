@@ -1,5 +1,4 @@
 -- 02, ticket [2], "Identifiers with international labels": what is promised of the equality of identifiers, by which stripping goes.
--- Assumes nothing.
 use Prim.Native.Char.{code}
 use Prim.Native.Nat.{ℕ}
 use mathlib.Core.Path.{_≡_, refl}

@@ -1,5 +1,4 @@
 -- 02, ticket [3], "Version numbers as numbers": what is promised of the number of a digit run, and that nothing else changed.
--- Assumes nothing.
 use Prim.Native.Char.{code}
 use Prim.Native.Nat.{ℕ, _≤_, _<_}
 use native.Mathlib.Omega.{arith}

@@ -1,5 +1,5 @@
 -- The calls of the library as their contracts give them: what a call answers, and what then stands in the buffer that was lent to it, which holds
--- `old` before. Assumes nothing: these are definitions.
+-- `old` before.
 use Prim.Native.Nat.{ℕ}
 use mathlib.Core.List.{List}
 use lib.ListN.{length}

@@ -1,4 +1,4 @@
--- Two statements of which each follows from the other. Assumes nothing: this is a definition.
+-- Two statements of which each follows from the other.
 
 -- P exactly when Q
 abbrev pub Exactly : Type 0 → Type 0 → Type 0

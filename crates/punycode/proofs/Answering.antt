@@ -1,4 +1,4 @@
--- What `decode` and `spell` answer, from what the private functions tell. Assumes nothing.
+-- What `decode` and `spell` answer, from what the private functions tell.
 use Prim.Native.Nat.{ℕ, _+_, _≤_, _<_}
 use native.Mathlib.Omega.{arith}
 use mathlib.Core.Path.{_≡_, ap, _∙_}

@@ -1,5 +1,4 @@
 -- What a caller knows from the answers: the spelling stands at the front of a buffer with room for it, and the buffer keeps its length.
--- Assumes nothing.
 use Prim.Native.Nat.{ℕ, _+_, _≤_, _<_}
 use native.Mathlib.Omega.{arith}
 use mathlib.Core.Path.{_≡_, refl, ap, _∙_}

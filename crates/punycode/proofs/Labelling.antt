@@ -1,4 +1,4 @@
--- The code that writes labels, and a text label by label. Assumes nothing.
+-- The code that writes labels, and a text label by label.
 use Prim.Native.Nat.{ℕ, _+_, _-_, _*_, _≤_, _<_}
 use native.Mathlib.Omega.{arith}
 use mathlib.Core.Path.{_≡_, refl, sym, ap, _∙_}

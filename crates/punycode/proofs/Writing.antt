@@ -1,4 +1,4 @@
--- Code points written in UTF-8. Assumes nothing.
+-- Code points written in UTF-8.
 use Prim.Native.Nat.{ℕ, suc, _+_, _-_, _*_, _/_, _%_, _≤_, _<_}
 use native.Mathlib.Numerals.{add-one, add-two, add-three}
 use native.Mathlib.Omega.{arith}

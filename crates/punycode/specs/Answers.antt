@@ -1,5 +1,4 @@
--- 02, ticket [2]: what `decode` and `spell` answer, and what they leave in the buffer that is lent to them. Assumes nothing: these are
--- definitions.
+-- 02, ticket [2]: what `decode` and `spell` answer, and what they leave in the buffer that is lent to them.
 use Prim.Native.Nat.{ℕ, _+_}
 use mathlib.Core.Bool.{true, false, cond}
 use mathlib.Core.List.{List}

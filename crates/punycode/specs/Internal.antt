@@ -1,4 +1,4 @@
--- What the private functions promise each other. Assumes nothing: these are definitions.
+-- What the private functions promise each other.
 use Prim.Native.Nat.{ℕ, _+_, _*_, _≤_, _<_}
 use Rattle.base_sequences.specs.Stored.{Put}
 use mathlib.Core.List.{List}

@@ -1,4 +1,4 @@
--- What `read_label` answers, from what the private functions tell. Assumes nothing.
+-- What `read_label` answers, from what the private functions tell.
 use Prim.Native.Nat.{ℕ, _+_, _≤_, _<_}
 use native.Mathlib.Numerals.{add-one}
 use native.Mathlib.Omega.{arith}

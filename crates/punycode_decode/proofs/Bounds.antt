@@ -1,5 +1,4 @@
 -- How large the variables of the code are: no sum or product overflows, and what holds of them before a digit holds after it.
--- Assumes nothing.
 use Prim.Native.Nat.{ℕ, _+_, _-_, _*_, _/_, _%_, _≤_, _<_}
 use native.Mathlib.Nat.{mul-le-mul-right, mul-le-mul-left, mod-lt, le-div-iff-mul-le}
 use native.Mathlib.Omega.{arith}

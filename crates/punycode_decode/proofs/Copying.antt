@@ -1,5 +1,4 @@
--- The loops that look for the last hyphen and copy the basic code points, and what they tell of a whole label behind its prefix. Assumes
--- nothing.
+-- The loops that look for the last hyphen and copy the basic code points, and what they tell of a whole label behind its prefix.
 use Prim.Native.Nat.{ℕ, zero, suc, _+_, _-_, _≤_, _<_}
 use native.Mathlib.Numerals.{add-one}
 use native.Mathlib.Omega.{arith}

@@ -1,4 +1,4 @@
--- The answers and what is stored at worked examples, by computing them. Assumes nothing.
+-- The answers and what is stored at worked examples, by computing them.
 use mathlib.Core.Path.{_≡_, refl}
 use mathlib.Core.List.{[], _∷_, _++_}
 use Rattle.base_readers.specs.Texts.{bytes}

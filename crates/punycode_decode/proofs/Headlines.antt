@@ -1,5 +1,5 @@
 -- What a caller knows from the answer, where it lends room for all: the code points stand at the front; there are none; or there are none or
--- too many, and then the label is long. Assumes nothing.
+-- too many, and then the label is long.
 use Prim.Native.Nat.{ℕ, _≤_, _<_}
 use native.Mathlib.Omega.{arith}
 use mathlib.Core.Path.{_≡_, refl, sym, ap, _∙_}

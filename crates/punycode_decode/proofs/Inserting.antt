@@ -1,4 +1,4 @@
--- A code point inserted among the first ones of an array: those behind it move on by one place, the last first. Assumes nothing.
+-- A code point inserted among the first ones of an array: those behind it move on by one place, the last first.
 use Prim.Native.Nat.{ℕ, zero, suc, _+_, _-_, _≤_, _<_}
 use native.Mathlib.Omega.{arith}
 use mathlib.Core.Path.{_≡_, refl, sym, ap, _∙_}

@@ -1,4 +1,4 @@
--- The loop of the code over the numbers: what is known before a digit is known after it, and what it tells where it ends. Assumes nothing.
+-- The loop of the code over the numbers: what is known before a digit is known after it, and what it tells where it ends.
 use Prim.Native.Nat.{ℕ, suc, _+_, _-_, _*_, _%_, _≤_, _<_}
 use native.Mathlib.Numerals.{add-one}
 use native.Mathlib.Omega.{arith}

@@ -1,4 +1,4 @@
--- 02, ticket [2]: what `read_label` answers, and what it leaves in the buffer that is lent to it. Assumes nothing: these are definitions.
+-- 02, ticket [2]: what `read_label` answers, and what it leaves in the buffer that is lent to it.
 use Prim.Native.Nat.{ℕ, _≤_, _<_}
 use mathlib.Core.Path.{_≡_}
 use mathlib.Core.Bool.{Bool, true, false}

@@ -1,4 +1,4 @@
--- What the private functions promise each other. Assumes nothing: these are definitions.
+-- What the private functions promise each other.
 use Prim.Native.Nat.{ℕ, _+_, _*_, _≤_, _<_, _/_, _%_, _-_}
 use mathlib.Core.Path.{_≡_}
 use mathlib.Core.Bool.{Bool, true}

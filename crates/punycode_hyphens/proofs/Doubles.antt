@@ -1,4 +1,4 @@
--- The loops that look for two hyphens in a row: what is told from a place on is told from the first. Assumes nothing.
+-- The loops that look for two hyphens in a row: what is told from a place on is told from the first.
 use Prim.Native.Nat.{ℕ, suc, _+_, _≤_, _<_}
 use native.Mathlib.Numerals.{add-one}
 use native.Mathlib.Omega.{arith}

@@ -1,4 +1,4 @@
--- A label that starts with xn-- and decodes, and the label that it decodes to, have the same spelling: the second is its own. Assumes nothing.
+-- A label that starts with xn-- and decodes, and the label that it decodes to, have the same spelling: the second is its own.
 use Prim.Native.Nat.{ℕ, zero, suc, _+_, _-_, _/_, _%_, _≤_, _<_}
 use native.Mathlib.Omega.{arith}
 use mathlib.Core.Path.{_≡_, refl, sym, ap, _∙_}

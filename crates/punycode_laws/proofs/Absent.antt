@@ -1,5 +1,5 @@
 -- A byte of ASCII that does not stand in a text does not stand in its spelling: what decoding inserts is from 128 up, and so are the bytes
--- that UTF-8 writes for it. Assumes nothing.
+-- that UTF-8 writes for it.
 use Prim.Native.Nat.{ℕ, suc, _+_, _*_, _/_, _%_, _≤_, _<_}
 use native.Mathlib.Omega.{arith}
 use mathlib.Core.Path.{_≡_, refl, sym, ap, _∙_}

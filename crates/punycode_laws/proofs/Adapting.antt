@@ -1,4 +1,4 @@
--- The adaptation of the bias: the turns that the definition is given are enough, and how large the bias becomes. Assumes nothing.
+-- The adaptation of the bias: the turns that the definition is given are enough, and how large the bias becomes.
 use Prim.Native.Nat.{ℕ, zero, suc, _+_, _*_, _/_, _≤_, _<_}
 use native.Mathlib.Nat.{div-le-of-le-mul, div-le-self}
 use native.Mathlib.Omega.{arith}

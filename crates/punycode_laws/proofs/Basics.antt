@@ -1,4 +1,4 @@
--- The basic code points, where they end, and what a label behind its prefix gives. Assumes nothing.
+-- The basic code points, where they end, and what a label behind its prefix gives.
 use Prim.Native.Nat.{ℕ, zero, suc, _+_, _-_, _≤_, _<_}
 use native.Mathlib.Numerals.{add-one}
 use native.Mathlib.Omega.{arith}

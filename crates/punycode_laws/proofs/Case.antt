@@ -1,4 +1,4 @@
--- Texts that are equal but for ASCII case have spellings that are. Assumes nothing.
+-- Texts that are equal but for ASCII case have spellings that are.
 use Prim.Native.Nat.{ℕ, zero, suc, _+_, _-_, _*_, _/_, _%_, _≤_, _<_}
 use native.Mathlib.Omega.{arith}
 use mathlib.Core.Path.{_≡_, refl, sym, ap, _∙_}

@@ -1,5 +1,5 @@
 -- The numbers of the input, one digit after the other: the cases of the definition; a code point that is no scalar stays; where i is too
--- large the next code point is none; and how many code points there are. Assumes nothing.
+-- large the next code point is none; and how many code points there are.
 use Prim.Native.Nat.{ℕ, suc, _+_, _*_, _%_, _≤_, _<_}
 use native.Mathlib.Omega.{arith}
 use mathlib.Core.Path.{_≡_, refl, sym, ap, _∙_}

@@ -1,4 +1,4 @@
--- Digits, thresholds and scalars, by the tests that the code makes in turn. Assumes nothing.
+-- Digits, thresholds and scalars, by the tests that the code makes in turn.
 use Prim.Native.Nat.{ℕ, _+_, _-_, _≤_, _<_}
 use native.Mathlib.Omega.{arith}
 use mathlib.Core.Path.{_≡_, refl, sym, _∙_}

@@ -1,4 +1,4 @@
--- UTF-8: how long it is. Assumes nothing.
+-- UTF-8: how long it is.
 use Prim.Native.Nat.{ℕ, _+_, _*_, _≤_, _<_}
 use native.Mathlib.Omega.{arith}
 use mathlib.Core.Path.{_≡_, refl}

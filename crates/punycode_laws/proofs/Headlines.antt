@@ -1,4 +1,4 @@
--- 02, ticket [2]: what holds of every spelling. Each theorem with premises has an instance below it. Assumes nothing.
+-- 02, ticket [2]: what holds of every spelling. Each theorem with premises has an instance below it.
 use Prim.Native.Nat.{ℕ, _*_, _≤_, _<_}
 use native.Mathlib.Omega.{arith}
 use mathlib.Core.Path.{_≡_, refl, sym, ap, _∙_}

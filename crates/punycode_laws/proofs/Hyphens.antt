@@ -1,4 +1,4 @@
--- A text without two hyphens in a row has no label that starts with xn--, and one without such a label is its own spelling. Assumes nothing.
+-- A text without two hyphens in a row has no label that starts with xn--, and one without such a label is its own spelling.
 use Prim.Native.Nat.{ℕ, zero, suc}
 use mathlib.Core.Path.{_≡_, refl, ap, _∙_}
 use mathlib.Core.Bool.{Bool, true, false, _&&_, _||_}

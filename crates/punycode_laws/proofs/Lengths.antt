@@ -1,5 +1,4 @@
 -- How long a text is beside its spelling: no more than four times as short, and no more than eleven times as long and five bytes more.
--- Assumes nothing.
 use Prim.Native.Nat.{ℕ, zero, suc, _+_, _-_, _*_, _%_, _≤_, _<_, _^_}
 use native.Mathlib.Nat.{mul-le-mul-left, mul-le-mul-right, pow-le-pow-right, pow-suc}
 use native.Mathlib.Omega.{arith}

@@ -1,4 +1,4 @@
--- Tests joined by "or", and the bytes of lists that are joined, cut, or have one more. Assumes nothing.
+-- Tests joined by "or", and the bytes of lists that are joined, cut, or have one more.
 use Prim.Native.Nat.{ℕ}
 use mathlib.Core.Path.{_≡_, refl, sym, ap, _∙_}
 use mathlib.Core.Bool.{Bool, true, false, _&&_, _||_}

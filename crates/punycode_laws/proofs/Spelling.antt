@@ -1,4 +1,4 @@
--- Labels, and the text as it is compared, one label after the other. Assumes nothing.
+-- Labels, and the text as it is compared, one label after the other.
 use Prim.Native.Nat.{ℕ, suc, _+_, _-_, _≤_, _<_}
 use native.Mathlib.Omega.{arith}
 use mathlib.Core.Path.{_≡_, refl, sym, ap, _∙_}

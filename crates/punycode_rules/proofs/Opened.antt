@@ -1,4 +1,4 @@
--- The definitions opened all at once, for what is computed. Assumes nothing.
+-- The definitions opened all at once, for what is computed.
 use Rattle.base_readers.specs.Texts.{within, oneOf}
 use Rattle.lexis_rules.specs.Bytes.{lower}
 use Rattle.punycode_rules.specs.Punycode.{digitOf, scaled, adapt, threshold, numbers, beforeLast, basic, punycode}

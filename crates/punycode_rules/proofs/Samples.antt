@@ -1,4 +1,4 @@
--- Computed samples: the strings of RFC 3492, section 7.1, a trace of its section 7.2, and the edges of 02, ticket [2]. Assumes nothing.
+-- Computed samples: the strings of RFC 3492, section 7.1, a trace of its section 7.2, and the edges of 02, ticket [2].
 use Prim.Native.Nat.{_*_}
 use mathlib.Core.Path.{_≡_, refl}
 use mathlib.Core.Bool.{true, false}

@@ -1,5 +1,4 @@
--- 02, ticket [2]: texts with their A-labels as U-labels (RFC 8601, section 5; RFC 5890, section 2.3.2.1). Assumes nothing: these are
--- definitions.
+-- 02, ticket [2]: texts with their A-labels as U-labels (RFC 8601, section 5; RFC 5890, section 2.3.2.1).
 use Prim.Native.Char.{code}
 use Prim.Native.Nat.{ℕ}
 use mathlib.Core.Bool.{Bool, true, false, not, _&&_, _||_}

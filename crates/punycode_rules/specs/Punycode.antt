@@ -1,5 +1,4 @@
--- RFC 3492: Punycode, decoded, with exact numbers, as in sections 5, 6.1 and 6.2. The RFC's parameters stand here and nowhere else. Assumes
--- nothing: these are definitions.
+-- RFC 3492: Punycode, decoded, with exact numbers, as in sections 5, 6.1 and 6.2. The RFC's parameters stand here and nowhere else.
 use Prim.Native.Char.{code}
 use Prim.Native.Nat.{ℕ, zero, suc, _+_, _-_, _*_, _/_, _%_}
 use mathlib.Core.Bool.{Bool, true, false, cond, _&&_}

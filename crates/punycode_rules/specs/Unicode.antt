@@ -1,4 +1,4 @@
--- RFC 3629: UTF-8. Assumes nothing: these are definitions.
+-- RFC 3629: UTF-8.
 use Prim.Native.Nat.{ℕ, _+_, _/_, _%_}
 use mathlib.Core.Bool.{Bool, true, false, _&&_, _||_}
 use mathlib.Core.List.{List, [], _∷_, _++_}

@@ -1,6 +1,6 @@
 -- The answers of the report, one law for each way out of the code: a body that is refused leaves the buffer as it is, and one that is
 -- told fills its front with exactly its text, copied from the first pass's buffer where it fits that, and else written by a second pass,
--- which is lent as much room as the first one measured. Assumes nothing.
+-- which is lent as much room as the first one measured.
 use Prim.Native.Nat.{ℕ, _≤_, _<_}
 use native.Mathlib.Omega.{arith}
 use mathlib.Core.Path.{_≡_, refl, sym, ap, _∙_}

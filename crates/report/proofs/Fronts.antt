@@ -1,4 +1,4 @@
--- Text stored in a lent buffer where something may be left past its end: only the front up to there is told. Assumes nothing.
+-- Text stored in a lent buffer where something may be left past its end: only the front up to there is told.
 use Prim.Native.Nat.{ℕ, suc, _+_, _≤_, _<_}
 use native.Mathlib.Omega.{arith}
 use mathlib.Core.Path.{_≡_, refl, sym, ap, _∙_}

@@ -1,5 +1,5 @@
 -- What stands behind the identifier of a body, by the tests that the code makes in turn: the header version, and what has to follow the
--- head. And the text of the identifier changes nothing of what is written behind its line, so that it may be left out. Assumes nothing.
+-- head. And the text of the identifier changes nothing of what is written behind its line, so that it may be left out.
 use Prim.Native.Nat.{ℕ, zero, suc, _+_, _-_, _*_, _≤_}
 use native.Mathlib.Omega.{arith}
 use mathlib.Core.Path.{_≡_, refl, sym, ap, _∙_, subst}

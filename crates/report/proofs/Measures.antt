@@ -1,5 +1,5 @@
 -- The answers of `measure`, one law for each way out of the code: the largest room is enough for every report, which has at most three bytes for each
--- byte of its body, and four more. Assumes nothing.
+-- byte of its body, and four more.
 use Prim.Native.Nat.{ℕ, _≤_}
 use native.Mathlib.Omega.{arith}
 use mathlib.Core.Path.{_≡_, refl, sym, ap, _∙_}

@@ -1,5 +1,5 @@
 -- The loop over results: each is written at the same place as long as those before it are ignored, and what an ignored one leaves is
--- written over or lies past the end of the whole text, of which nothing is promised. Assumes nothing.
+-- written over or lies past the end of the whole text, of which nothing is promised.
 use Prim.Native.Nat.{ℕ, _+_, _*_, _≤_, _<_, _^_}
 use native.Mathlib.Nat.{zero-add}
 use native.Mathlib.Omega.{arith}

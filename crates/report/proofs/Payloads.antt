@@ -1,5 +1,5 @@
 -- What follows the head of a body, by the tests that the code makes in turn: the word none, or results. The code tries the word before
--- results and the grammar after them, which is the same because the word begins no result. Assumes nothing.
+-- results and the grammar after them, which is the same because the word begins no result.
 use Prim.Native.Nat.{ℕ, _+_, _*_, _≤_, _<_, _^_}
 use native.Mathlib.Omega.{arith}
 use mathlib.Core.Path.{_≡_, refl, sym, ap, _∙_}

@@ -1,4 +1,4 @@
--- One result with the space and the ";" before it: what `report_results` reads and writes behind the mark is the result there. Assumes nothing.
+-- One result with the space and the ";" before it: what `report_results` reads and writes behind the mark is the result there.
 use Prim.Native.Nat.{ℕ, _+_, _<_, _^_, min}
 use native.Mathlib.Omega.{arith}
 use mathlib.Core.Path.{_≡_, refl, sym, ap, _∙_, subst}

@@ -1,4 +1,4 @@
--- The escape of a text: byte by byte, and of two texts one after the other; texts stored one after the other. Assumes nothing.
+-- The escape of a text: byte by byte, and of two texts one after the other; texts stored one after the other.
 use Prim.Native.Nat.{ℕ, _+_, _-_, _/_, _%_, _≤_, _<_, _^_}
 use native.Mathlib.Omega.{arith}
 use mathlib.Core.Path.{_≡_, refl, sym, _∙_}

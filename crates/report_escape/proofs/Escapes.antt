@@ -1,6 +1,6 @@
 -- The escape of a run of bytes that are written as they stand; then the two
 -- loops that write escaped texts, what each keeps, one turn, and the end. The premises are literally what a need is handed, and each law
--- goes by induction over the text or by the laws of `Going`. Assumes nothing.
+-- goes by induction over the text or by the laws of `Going`.
 use Prim.Native.Nat.{ℕ, zero, suc, _+_, _-_, _/_, _%_, _≤_, _<_, _^_}
 use native.Mathlib.Numerals.{add-one}
 use native.Mathlib.Omega.{arith}

@@ -1,4 +1,4 @@
--- What private functions say: no public contract cites this. Assumes nothing: these are definitions.
+-- What private functions say: no public contract cites this.
 use Prim.Native.Char.{code}
 use Prim.Native.Nat.{ℕ}
 use mathlib.Core.Bool.{Bool, not, _&&_}

@@ -1,4 +1,4 @@
--- How many results of a body can be ignored: each takes a byte at least. Assumes nothing.
+-- How many results of a body can be ignored: each takes a byte at least.
 use Prim.Native.Nat.{ℕ, _+_, _*_, _≤_}
 use native.Mathlib.Omega.{arith}
 use mathlib.Core.Path.{_≡_, refl}

@@ -1,5 +1,5 @@
 -- A result put in where a part ends, or where the space behind a part ends, is read there between the others, which stay as they were:
--- by induction on the parts before that place, because each hangs on nothing behind what closes it. Assumes nothing.
+-- by induction on the parts before that place, because each hangs on nothing behind what closes it.
 use Prim.Native.Nat.{ℕ, _+_}
 use native.Mathlib.Omega.{arith}
 use mathlib.Core.Path.{_≡_, refl, sym, ap, _∙_, subst}

@@ -1,6 +1,5 @@
 -- Demand 3: an old reader never misreads a newer writer. Two theorems over the report of a body, each with an instance: the first holds
 -- because what names a header version hangs on nothing behind it, the second because a result hangs on nothing behind what closes it.
--- Assumes nothing.
 use Prim.Native.Nat.{ℕ, _*_}
 use native.Mathlib.Omega.{arith}
 use mathlib.Core.Path.{_≡_, refl, sym, ap, _∙_}

@@ -1,4 +1,4 @@
--- The numbers, places and counts that a report can have, by the cases of its answer. What is promised of the call is in crate `promises`. Assumes nothing.
+-- The numbers, places and counts that a report can have, by the cases of its answer. What is promised of the call is in crate `promises`.
 use Prim.Native.Nat.{ℕ}
 use native.Mathlib.Omega.{arith}
 use mathlib.Core.Path.{_≡_, refl, sym, ap, _∙_}

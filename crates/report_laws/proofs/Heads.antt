@@ -1,5 +1,5 @@
 -- What stands before the results is the same whatever follows, as long as that ends it, from the laws of its parts; and a body that names
--- a header version has it in its head. Assumes nothing.
+-- a header version has it in its head.
 use Prim.Native.Char.{code}
 use Prim.Native.Nat.{ℕ, suc, _+_}
 use native.Mathlib.Omega.{arith}

@@ -1,5 +1,5 @@
 -- An ignored result put beside a result of a body changes nothing that is written and is counted once: the head and the other results
--- are read as before, and the lines and the count are by induction on the results. Assumes nothing.
+-- are read as before, and the lines and the count are by induction on the results.
 use Prim.Native.Nat.{ℕ, suc, _+_, _*_}
 use native.Mathlib.Omega.{arith}
 use mathlib.Core.Path.{_≡_, refl, ap, _∙_}

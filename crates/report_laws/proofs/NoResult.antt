@@ -1,4 +1,4 @@
--- The word none with nothing behind it but space begins no result, because what would have to follow is not there. Assumes nothing.
+-- The word none with nothing behind it but space begins no result, because what would have to follow is not there.
 use Prim.Native.Nat.{ℕ, _+_}
 use native.Mathlib.Omega.{arith}
 use mathlib.Core.Path.{_≡_, refl}

@@ -1,5 +1,5 @@
 -- Every computed place beside a result is where a part of the body or the space behind it ends, and each result has four of them, both
--- by induction on the results. Assumes nothing.
+-- by induction on the results.
 use Prim.Native.Nat.{ℕ, suc, _+_, _*_}
 use native.Mathlib.Omega.{arith}
 use mathlib.Core.Path.{_≡_, refl, sym, ap, _∙_, subst}

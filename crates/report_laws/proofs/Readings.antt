@@ -1,5 +1,5 @@
 -- A body by its head and what follows, case by case; a body within the limit is answered by what it says; and two bodies that name the
--- same newer header version in the same bytes say the same, because naming hangs on nothing behind it. Assumes nothing.
+-- same newer header version in the same bytes say the same, because naming hangs on nothing behind it.
 use Prim.Native.Nat.{ℕ, _≤_}
 use mathlib.Core.Path.{_≡_, refl, sym, ap, _∙_, subst}
 use mathlib.Core.Bool.{Bool, true, false}

@@ -1,4 +1,4 @@
--- Which room is always enough, from the length that a report has at most. Assumes nothing.
+-- Which room is always enough, from the length that a report has at most.
 use Prim.Native.Nat.{ℕ, _+_, _*_, _≤_}
 use native.Mathlib.Omega.{arith}
 use mathlib.Core.Path.{_≡_, ap}

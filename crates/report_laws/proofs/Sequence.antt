@@ -1,5 +1,5 @@
 -- The results of a body one by one: `Reads` says that a list holds these results and then, after space, the end, and it is what the
--- grammar's `resinfos` reads, by induction on the results. Assumes nothing.
+-- grammar's `resinfos` reads, by induction on the results.
 use Prim.Native.Char.{code}
 use Prim.Native.Nat.{ℕ, _+_}
 use native.Mathlib.Omega.{arith}

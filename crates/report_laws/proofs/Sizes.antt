@@ -1,5 +1,5 @@
 -- A report is at most three times as long as its body, and four bytes: each line is no longer than three times the part of the body that
--- it reports, by the columns of a line and the weights of the parts, and so is the whole. Assumes nothing.
+-- it reports, by the columns of a line and the weights of the parts, and so is the whole.
 use Prim.Native.Char.{code}
 use Prim.Native.Nat.{ℕ, suc, _+_, _*_, _≤_}
 use native.Mathlib.Omega.{arith}

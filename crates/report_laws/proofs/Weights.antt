@@ -1,6 +1,5 @@
 -- What a parser yields weighs no more than three times the bytes it takes, from the same of its parts, by what is known of the parts
 -- where it succeeds; and so do the small pieces of a body and property values, whose texts are no longer than what is taken.
--- Assumes nothing.
 use Prim.Native.Char.{code}
 use Prim.Native.Nat.{ℕ, zero, suc, _+_, _-_, _*_, _≤_}
 use native.Mathlib.Omega.{arith}

@@ -1,5 +1,5 @@
 -- The lines of a report as their columns one after another: the columns stored one after another are the line stored. Each line opens by
--- computation to its columns, tabs and LF. The premises are literally what a need is handed. Assumes nothing.
+-- computation to its columns, tabs and LF. The premises are literally what a need is handed.
 use Prim.Native.Nat.{ℕ, _+_, _-_, _≤_, _<_, _^_}
 use native.Mathlib.Omega.{arith}
 use mathlib.Core.Path.{_≡_, refl, sym, _∙_}

@@ -1,4 +1,4 @@
--- The lines of a report by the places of their texts. Assumes nothing: these are definitions.
+-- The lines of a report by the places of their texts.
 use Prim.Native.Char.{code}
 use Prim.Native.Nat.{ℕ}
 use mathlib.Core.Bool.{Bool}

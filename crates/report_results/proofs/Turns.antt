@@ -1,5 +1,5 @@
 -- One result, read and written: what the code finds of its reason, its properties and its method is what the parsers yield there, and
--- the lines that it writes are the lines of that. By the theorems of the crates `result_method`, `result_parts` and `result_steps` on what was found. Assumes nothing.
+-- the lines that it writes are the lines of that. By the theorems of the crates `result_method`, `result_parts` and `result_steps` on what was found.
 use Prim.Native.Nat.{ℕ, _+_, _≤_, _<_, _^_, min}
 use native.Mathlib.Omega.{arith}
 use mathlib.Core.Path.{_≡_, refl, sym, ap, _∙_}

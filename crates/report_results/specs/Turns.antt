@@ -1,4 +1,4 @@
--- What is read and written of one result, by its places. Assumes nothing: these are definitions.
+-- What is read and written of one result, by its places.
 use Prim.Native.Nat.{ℕ, _+_, min}
 use mathlib.Core.List.{List, []}
 use lib.ListN.{length}

@@ -1,5 +1,5 @@
 -- A whole body at worked examples, computed: identifier and header version, the word none, results, and what may follow. Each row has a
--- neighbour on the other side of its rule. Assumes nothing.
+-- neighbour on the other side of its rule.
 use Prim.Native.Nat.{ℕ}
 use mathlib.Core.Path.{_≡_, refl}
 use mathlib.Core.List.{List, [], _∷_, _++_, map}

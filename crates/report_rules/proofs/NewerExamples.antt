@@ -1,5 +1,5 @@
 -- What demand 3 speaks of at worked examples: naming a header version, well-formed fields, results and the places beside them computed; and for
--- each clause of a notion something that it does not hold of. Assumes nothing.
+-- each clause of a notion something that it does not hold of.
 use Prim.Native.Nat.{ℕ, _≤_}
 use native.Mathlib.Omega.{arith}
 use mathlib.Core.Path.{_≡_, refl, ap}

@@ -1,5 +1,4 @@
 -- Every definition of a whole body and its report opened at once: `unfolding opened` lets a proof compute with all of them.
--- Assumes nothing.
 use Rattle.lexis_rules.specs.Words.{readDigits}
 use Rattle.identifier_rules.specs.Identifier.{identifierByte, identifier}
 use Rattle.identifier_rules.specs.Version.{stated, headerVersion}

@@ -1,5 +1,5 @@
 -- The report and the answers at worked examples, computed part by part: which bytes stand for themselves, each line, what is ignored, the
--- order of the answers, and what a caller sees. The tables are small, so that an error shows the two sides. Assumes nothing.
+-- order of the answers, and what a caller sees. The tables are small, so that an error shows the two sides.
 use Prim.Native.Nat.{ℕ, zero, suc}
 use mathlib.Core.Path.{_≡_, refl}
 use mathlib.Core.Bool.{Bool, true, false}

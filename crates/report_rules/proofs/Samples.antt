@@ -1,5 +1,5 @@
 -- Document 01, "Samples on each side" and its whole example, and rules with an accepted and a refused neighbour: the computed answers
--- are the stated ones. Assumes nothing.
+-- are the stated ones.
 use Prim.Native.Nat.{ℕ}
 use mathlib.Core.Path.{_≡_, refl}
 use mathlib.Core.List.{List, [], _∷_, _++_, map}

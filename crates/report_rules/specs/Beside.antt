@@ -1,5 +1,4 @@
--- Document 01, "How strong the contracts have to be": where a result is put before or after another one. Assumes nothing: these are
--- definitions.
+-- Document 01, "How strong the contracts have to be": where a result is put before or after another one.
 use Prim.Native.Nat.{ℕ, _+_}
 use mathlib.Core.List.{List, [], _∷_, _++_}
 use lib.ListN.{take, drop}

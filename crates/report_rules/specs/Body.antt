@@ -1,5 +1,4 @@
--- Document 01, "Identifier and header version" and "Results": a whole field body, and what it says. Assumes nothing: these are
--- definitions.
+-- Document 01, "Identifier and header version" and "Results": a whole field body, and what it says.
 use Prim.Native.Char.{code}
 use Prim.Native.Nat.{ℕ}
 use mathlib.Core.Bool.{true, false}

@@ -1,4 +1,4 @@
--- Document 01, "How strong the contracts have to be": what demand 3 speaks of. Assumes nothing: these are definitions.
+-- Document 01, "How strong the contracts have to be": what demand 3 speaks of.
 use Prim.Native.Nat.{ℕ, suc, _≤_}
 use mathlib.Core.Path.{_≡_}
 use mathlib.Core.Bool.{Bool, true, false}

@@ -1,4 +1,4 @@
--- Document 01, "The report" and "Answer numbers": the report of a body, and the answer. Assumes nothing: these are definitions.
+-- Document 01, "The report" and "Answer numbers": the report of a body, and the answer.
 use Prim.Native.Char.{code}
 use Prim.Native.Nat.{ℕ, _+_, _-_, _/_, _%_}
 use mathlib.Core.Bool.{Bool, true, false, cond, not, _&&_}

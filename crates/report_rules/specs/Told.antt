@@ -1,4 +1,4 @@
--- What a call tells of a body that was read: number, bytes and count of each case, where there is room. Assumes nothing: these are definitions.
+-- What a call tells of a body that was read: number, bytes and count of each case, where there is room.
 use Prim.Native.Nat.{ℕ}
 use mathlib.Core.Bool.{Bool, true, false}
 use mathlib.Core.List.{List, [], _++_}

@@ -1,5 +1,5 @@
 -- What comes next, said by its byte: which bytes end a run or begin no space, a mark with the space around it, and what ends a result.
--- Each law is by a computed test of a short list of bytes. Assumes nothing.
+-- Each law is by a computed test of a short list of bytes.
 use Prim.Native.Char.{code}
 use Prim.Native.Nat.{ℕ, zero, suc}
 use mathlib.Core.Path.{_≡_, refl}

@@ -1,5 +1,4 @@
 -- A text whose first byte is another one, but for ASCII case, is another text: what a reader may ask before it reads a whole keyword.
--- Assumes nothing.
 use Prim.Native.Nat.{ℕ, zero, suc}
 use mathlib.Core.Path.{_≡_, refl}
 use mathlib.Core.Bool.{false}

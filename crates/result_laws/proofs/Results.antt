@@ -1,5 +1,5 @@
 -- A result is the same whatever follows it, as long as that is, after space, a semicolon or the end; what each part takes is there, and
--- each opens with its first byte. From the laws of the parts, in the order of the grammar. Assumes nothing.
+-- each opens with its first byte. From the laws of the parts, in the order of the grammar.
 use Prim.Native.Char.{code}
 use Prim.Native.Nat.{ℕ}
 use native.Mathlib.Omega.{arith}

@@ -1,5 +1,5 @@
 -- A property value is the same whatever comes behind the end or the delimiter that follows it: each kind from the laws of its parts, and
--- the two choices because each kind tells itself apart by its bytes and the one that follows. Assumes nothing.
+-- the two choices because each kind tells itself apart by its bytes and the one that follows.
 use Prim.Native.Char.{code}
 use Prim.Native.Nat.{ℕ, suc, _+_, _≤_, _<_}
 use native.Mathlib.Omega.{arith}

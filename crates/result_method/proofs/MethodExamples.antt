@@ -1,4 +1,4 @@
--- Methods, their versions and their results at worked examples, computed. Assumes nothing.
+-- Methods, their versions and their results at worked examples, computed.
 use Prim.Native.Nat.{ℕ}
 use mathlib.Core.Path.{refl}
 use mathlib.Core.List.{List, [], _∷_}

@@ -1,5 +1,5 @@
 -- Where a method and its result that the code finds stand: in order, inside the slice, and from the place that was asked for on, so that a
--- caller may cut them out and gets on. From what each reader takes being there. Assumes nothing.
+-- caller may cut them out and gets on. From what each reader takes being there.
 use Prim.Native.Nat.{ℕ, _≤_, _<_}
 use native.Mathlib.Omega.{arith}
 use mathlib.Core.Path.{_≡_, refl, sym, subst}

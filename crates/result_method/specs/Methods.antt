@@ -1,5 +1,4 @@
 -- What the code's answers on a method, its version and its result say: these by their places, and the texts that stand there.
--- Assumes nothing: these are definitions.
 use Prim.Native.Char.{code}
 use Prim.Native.Nat.{ℕ}
 use mathlib.Core.List.{List}

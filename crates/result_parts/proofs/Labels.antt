@@ -1,5 +1,5 @@
 -- What stands before a property value, by the tests that the code makes in turn; what the code finds is what the parser yields; and a
--- property is that part followed by its value. Assumes nothing.
+-- property is that part followed by its value.
 use Prim.Native.Nat.{ℕ, _+_}
 use mathlib.Core.Path.{_≡_, refl, sym, ap, _∙_}
 use mathlib.Core.List.{List}

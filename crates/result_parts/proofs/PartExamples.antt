@@ -1,4 +1,4 @@
--- Reasons and labels at worked examples, computed. Assumes nothing.
+-- Reasons and labels at worked examples, computed.
 use Prim.Native.Nat.{ℕ}
 use mathlib.Core.Path.{refl}
 use mathlib.Core.Bool.{true, false}

@@ -1,5 +1,5 @@
 -- Where the label of a property that the code finds stands: in order, inside the slice, and behind the place that was asked for, so that a
--- caller may cut its names out and gets on. From what each reader takes being there. Assumes nothing.
+-- caller may cut its names out and gets on. From what each reader takes being there.
 use Prim.Native.Nat.{ℕ, _≤_, _<_}
 use mathlib.Core.Path.{_≡_, sym, subst}
 use mathlib.Core.List.{List}

@@ -1,5 +1,4 @@
 -- What the code's answers on reasons and labels say: these by their places, and the texts that stand there.
--- Assumes nothing: these are definitions.
 use Prim.Native.Char.{code}
 use Prim.Native.Nat.{ℕ}
 use mathlib.Core.Bool.{true, false}

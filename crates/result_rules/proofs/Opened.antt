@@ -1,4 +1,4 @@
--- Every definition up to a result opened at once: `unfolding opened` lets a proof compute with all of them. Assumes nothing.
+-- Every definition up to a result opened at once: `unfolding opened` lets a proof compute with all of them.
 use Rattle.base_readers.specs.Texts.{starts, follows}
 use Rattle.base_readers.specs.Parsers.{after, _>>=_, give, when, ahead, end, byte, taken, skipping, text, pass, branch, optional, cons, several}
 use Rattle.lexis_rules.specs.Words.{readValue, readKeyword, readWord, readNumber}

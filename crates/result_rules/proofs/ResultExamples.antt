@@ -1,4 +1,4 @@
--- 01, Results: one result at worked examples, computed: what it says, how much it takes, and whether it is understood. Assumes nothing.
+-- 01, Results: one result at worked examples, computed: what it says, how much it takes, and whether it is understood.
 use Prim.Native.Nat.{ℕ}
 use mathlib.Core.Path.{_≡_, refl}
 use mathlib.Core.Bool.{Bool, true, false}

@@ -1,4 +1,4 @@
--- The table of methods and the ptypes at worked examples, computed: results on each side of each row. Assumes nothing.
+-- The table of methods and the ptypes at worked examples, computed: results on each side of each row.
 use Prim.Native.Nat.{ℕ}
 use mathlib.Core.Path.{_≡_, refl}
 use mathlib.Core.Bool.{Bool, true, false}

@@ -1,5 +1,5 @@
 -- 01, Results: property values at worked examples, computed: the bytes of a local part and of a domain, where dots and hyphens may stand, and the
--- four kinds with their texts. Assumes nothing.
+-- four kinds with their texts.
 use Prim.Native.Nat.{ℕ}
 use mathlib.Core.Path.{_≡_, refl}
 use mathlib.Core.Bool.{true, false}

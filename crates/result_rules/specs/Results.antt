@@ -1,5 +1,4 @@
 -- Document 01, "Results": one result (RFC 8601, 2.2: resinfo from its ";" on), as abstract syntax and as a grammar.
--- Assumes nothing: these are definitions.
 use Prim.Native.Char.{code}
 use Prim.Native.Nat.{ℕ}
 use mathlib.Core.Bool.{Bool, true, false, not, _&&_, _||_}

@@ -1,4 +1,4 @@
--- Document 01, "Results": which results are understood; the others are ignored. Assumes nothing: these are definitions.
+-- Document 01, "Results": which results are understood; the others are ignored.
 use Prim.Native.Nat.{ℕ}
 use mathlib.Core.Bool.{Bool, true, false, _&&_, _||_}
 use mathlib.Core.List.{List, [], _∷_}

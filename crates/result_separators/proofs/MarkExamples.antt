@@ -1,4 +1,4 @@
--- Marks at worked examples, computed. Assumes nothing.
+-- Marks at worked examples, computed.
 use Prim.Native.Char.{code}
 use mathlib.Core.Path.{refl}
 use mathlib.Core.List.{[], _∷_}

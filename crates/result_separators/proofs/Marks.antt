@@ -1,5 +1,5 @@
 -- A part and what stands behind it: a mark as a reader, what is said of the place behind what a reader takes, how a parser goes on from
--- there, and that it is inside the slice. Assumes nothing.
+-- there, and that it is inside the slice.
 use Prim.Native.Nat.{ℕ, zero, suc, _+_, _≤_, _<_, _^_}
 use native.Mathlib.Omega.{arith}
 use mathlib.Core.Path.{_≡_, refl, sym, ap, _∙_}

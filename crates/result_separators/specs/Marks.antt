@@ -1,5 +1,4 @@
 -- A byte between parts of a result, with the space around it, and what is said of the place behind what was taken.
--- Assumes nothing: these are definitions.
 use Prim.Native.Nat.{ℕ, _+_}
 use mathlib.Core.Bool.{true, false}
 use mathlib.Core.List.{List}

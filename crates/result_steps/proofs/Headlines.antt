@@ -1,5 +1,5 @@
 -- What the code finds by places is what the grammar's parsers yield there, with its texts: one theorem for each reader. Those that are
--- handed where a space ends are asked with the place where it does. Assumes nothing.
+-- handed where a space ends are asked with the place where it does.
 use Prim.Native.Nat.{ℕ}
 use mathlib.Core.Path.{_≡_}
 use mathlib.Core.Bool.{true}

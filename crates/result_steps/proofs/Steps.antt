@@ -1,5 +1,5 @@
 -- The step reader finds what the parser of properties yields, and it ends where a result may end. By cases of what stands before a
--- property value. Assumes nothing.
+-- property value.
 use Prim.Native.Char.{code}
 use Prim.Native.Nat.{ℕ, _≤_, _<_}
 use native.Mathlib.Omega.{arith}

@@ -1,4 +1,4 @@
--- What the step reader answers: what stands behind a method, a reason or a property. Assumes nothing: these are definitions.
+-- What the step reader answers: what stands behind a method, a reason or a property.
 use Prim.Native.Char.{code}
 use Prim.Native.Nat.{ℕ}
 use mathlib.Core.Bool.{Bool, true, false}

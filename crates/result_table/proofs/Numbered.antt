@@ -1,5 +1,5 @@
 -- The names that the code keeps in rows: what the loop over them keeps, one turn, and the end; then what a text's number says of it.
--- By induction on the rows and on the names. Assumes nothing.
+-- By induction on the rows and on the names.
 use Prim.Native.Nat.{ℕ, zero, suc, _+_, _≤_, _<_, suc-le-suc}
 use native.Mathlib.Nat.{not-suc-le-zero, le-of-suc-le-suc, add-zero}
 use native.Mathlib.Numerals.{add-one}

@@ -1,6 +1,5 @@
 -- A table of methods kept as flags, one for each of the methods and each of the results: what the table says of a method and a result is
 -- the flag at their numbers, and false where one of them has none. By induction on the rows. Last, the results of 01's table.
--- Assumes nothing.
 use Prim.Native.Nat.{ℕ, _≤_, _<_}
 use mathlib.Core.Path.{_≡_, refl, sym}
 use mathlib.Core.Bool.{Bool, true, false, _&&_}

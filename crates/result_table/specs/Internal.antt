@@ -1,4 +1,4 @@
--- How the code keeps the table of methods, as its private function says it. Assumes nothing: these are definitions.
+-- How the code keeps the table of methods, as its private function says it.
 use Prim.Native.Nat.{ℕ, zero, suc}
 use mathlib.Core.Bool.{Bool, true, false, _&&_}
 use mathlib.Core.List.{List, [], _∷_, map}

@@ -1,4 +1,4 @@
--- What the code finds by places is what the grammar's parser of property values yields there: kind, text and place. Assumes nothing.
+-- What the code finds by places is what the grammar's parser of property values yields there: kind, text and place.
 use Prim.Native.Nat.{ℕ}
 use mathlib.Core.Path.{_≡_}
 use mathlib.Core.List.{List}

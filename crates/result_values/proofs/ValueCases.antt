@@ -1,5 +1,5 @@
 -- Property values, by the tests that the code makes in turn. The premises of each law are what a call ensures and what a test says of its
--- answer. Assumes nothing.
+-- answer.
 use Prim.Native.Nat.{ℕ, zero, suc, _+_, _-_, _≤_, _<_}
 use native.Mathlib.Omega.{arith}
 use mathlib.Core.Path.{_≡_, refl, sym, ap, _∙_}

@@ -1,4 +1,4 @@
--- Property values at worked examples, computed: where each stands, and its kind and text. Assumes nothing.
+-- Property values at worked examples, computed: where each stands, and its kind and text.
 use mathlib.Core.Path.{_≡_, refl}
 use mathlib.Core.Bool.{true, false}
 use mathlib.Core.List.{[], _∷_, _++_}

@@ -1,5 +1,5 @@
 -- What the code finds as a property value is what the parser of property values yields, with its kind and its text: case by case, each
--- the next thing to read. Assumes nothing.
+-- the next thing to read.
 use Prim.Native.Nat.{ℕ, zero, suc, _+_, _-_, _≤_}
 use native.Mathlib.Omega.{arith}
 use mathlib.Core.Path.{_≡_, refl, sym, ap, _∙_}

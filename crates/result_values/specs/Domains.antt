@@ -1,4 +1,4 @@
--- What the steps of a domain and of a local part say. Assumes nothing: these are definitions.
+-- What the steps of a domain and of a local part say.
 use Prim.Native.Char.{code}
 use Prim.Native.Nat.{ℕ}
 use mathlib.Core.Bool.{Bool, not, cond, _&&_, _||_}

@@ -1,5 +1,4 @@
--- What the code's answers on property values say (document 01, "Results": A property value is one of four kinds). Assumes nothing: these
--- are definitions.
+-- What the code's answers on property values say (document 01, "Results": A property value is one of four kinds).
 use Prim.Native.Char.{code}
 use Prim.Native.Nat.{ℕ, zero, suc, _+_, _-_}
 use mathlib.Core.Bool.{Bool, true, false}

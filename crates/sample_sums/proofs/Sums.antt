@@ -1,5 +1,5 @@
 -- The loops over bytes: the sum and the count from a place on, with what stands so far, are those of the whole list. One turn and the end of
--- each, by the definition's one step. Assumes nothing.
+-- each, by the definition's one step.
 use Prim.Native.Nat.{ℕ, suc, _+_, _*_, _%_, _≤_, _<_, _^_}
 use native.Mathlib.Numerals.{add-one}
 use native.Mathlib.Omega.{arith}

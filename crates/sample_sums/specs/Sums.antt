@@ -1,4 +1,4 @@
--- What the programs that run cases tell of bytes. Assumes nothing: these are definitions.
+-- What the programs that run cases tell of bytes.
 use Prim.Native.Nat.{ℕ, _+_, _*_, _%_}
 use mathlib.Core.Bool.{cond}
 use mathlib.Core.List.{List, [], _∷_}

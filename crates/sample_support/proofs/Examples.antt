@@ -1,4 +1,4 @@
--- The definitions at worked examples, computed. Assumes nothing.
+-- The definitions at worked examples, computed.
 use Prim.Native.Nat.{min}
 use mathlib.Core.Path.{_≡_, refl}
 use mathlib.Core.List.{[], _∷_}

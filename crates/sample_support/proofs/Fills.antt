@@ -1,6 +1,6 @@
 -- Texts stored one after the other as far as there is room, the place after what is stored, and the loops that store: what is left to
 -- store, stored from the place reached, ends as the whole text would. Then the text of shown bytes and the digits in front of a text, one
--- byte at a time. Assumes nothing.
+-- byte at a time.
 use Prim.Native.Nat.{ℕ, suc, _+_, _-_, _/_, _%_, _≤_, _<_, min}
 use native.Mathlib.Numerals.{add-one}
 use native.Mathlib.Omega.{arith}

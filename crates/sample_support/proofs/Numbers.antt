@@ -1,5 +1,4 @@
 -- A number that is cut at each digit is the whole number cut once: a number past the most stays past it with more digits behind.
--- Assumes nothing.
 use Prim.Native.Nat.{ℕ, suc, _+_, _-_, _*_, _≤_, _<_, min}
 use native.Mathlib.Numerals.{add-one}
 use native.Mathlib.Omega.{arith}

@@ -1,4 +1,4 @@
--- How the programs that run cases show bytes, and how they read their arguments. Assumes nothing: these are definitions.
+-- How the programs that run cases show bytes, and how they read their arguments.
 use Prim.Native.Char.{code}
 use Prim.Native.Nat.{ℕ, _+_, _-_, _*_, _/_, _%_, _≤_, min}
 use mathlib.Core.Path.{_≡_}

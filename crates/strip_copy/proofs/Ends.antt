@@ -1,4 +1,4 @@
--- The answer by the sums of a block, and what is written. Assumes nothing.
+-- The answer by the sums of a block, and what is written.
 use Prim.Native.Nat.{ℕ, zero, suc, _≤_, _<_}
 use native.Mathlib.Nat.{zero-add}
 use mathlib.Core.Path.{_≡_, refl, sym, ap, _∙_}

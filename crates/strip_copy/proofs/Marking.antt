@@ -1,4 +1,4 @@
--- The loop that marks where the fields that go start and end. Assumes nothing.
+-- The loop that marks where the fields that go start and end.
 use Prim.Native.Nat.{ℕ, zero, suc, _+_, _-_, _≤_, _<_, zero-le}
 use native.Mathlib.Numerals.{add-one}
 use native.Mathlib.Omega.{arith}

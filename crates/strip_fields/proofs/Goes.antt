@@ -1,4 +1,4 @@
--- Which fields go, by the tests that the code makes in turn. Assumes nothing.
+-- Which fields go, by the tests that the code makes in turn.
 use Prim.Native.Nat.{ℕ}
 use mathlib.Core.Path.{_≡_, refl, ap, _∙_}
 use mathlib.Core.Bool.{Bool, true, false, _&&_}

@@ -1,4 +1,4 @@
--- The loop over the fields: what is left of the block answers as the whole, and one turn. Assumes nothing.
+-- The loop over the fields: what is left of the block answers as the whole, and one turn.
 use Prim.Native.Nat.{ℕ, _+_, _-_, _≤_, zero-le}
 use native.Mathlib.Nat.{zero-add}
 use native.Mathlib.Omega.{arith}

@@ -1,4 +1,4 @@
--- What writing the kept fields answers and leaves. Assumes nothing: these are definitions.
+-- What writing the kept fields answers and leaves.
 use Prim.Native.Nat.{ℕ}
 use mathlib.Core.Path.{_≡_}
 use mathlib.Core.Bool.{Bool, true, false}

@@ -1,4 +1,4 @@
--- Where the same identifiers are listed, stripping gives the same. Assumes nothing.
+-- Where the same identifiers are listed, stripping gives the same.
 use Prim.Native.Nat.{ℕ, zero, suc}
 use mathlib.Core.Path.{_≡_, refl, sym, ap, _∙_}
 use mathlib.Core.Bool.{Bool, true, false, not, _&&_}

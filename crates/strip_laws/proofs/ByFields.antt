@@ -1,5 +1,5 @@
 -- The test by which fields are removed is demand 2's sentence, and so the kept fields are those of the sentence: by cases of the test, field by
--- field. Assumes nothing.
+-- field.
 use Prim.Native.Nat.{ℕ}
 use native.Mathlib.Omega.{arith}
 use mathlib.Core.Path.{_≡_, refl, sym, ap, _∙_}

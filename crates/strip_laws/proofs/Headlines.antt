@@ -1,5 +1,4 @@
 -- What stripping promises beyond its contract. Each theorem is about the definition that the contract of `strip::strip` cites.
--- Assumes nothing.
 use Prim.Native.Nat.{ℕ, zero, suc, _+_, _≤_}
 use native.Mathlib.Omega.{arith}
 use mathlib.Core.Path.{_≡_, refl, sym, ap, _∙_}

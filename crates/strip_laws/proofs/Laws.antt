@@ -1,5 +1,5 @@
 -- What the definition of stripping gives where nothing is refused, and what is known where it answers 0, by cases in the order of the
--- answers. Assumes nothing.
+-- answers.
 use Prim.Native.Nat.{ℕ, zero, suc, _≤_}
 use native.Mathlib.Omega.{arith}
 use mathlib.Core.Path.{_≡_, refl, _∙_}

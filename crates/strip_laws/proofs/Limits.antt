@@ -1,4 +1,4 @@
--- Stripping a block of as many fields as there may be, and of one more, computed. Assumes nothing.
+-- Stripping a block of as many fields as there may be, and of one more, computed.
 use Prim.Native.Nat.{ℕ}
 use mathlib.Core.Path.{_≡_, refl}
 use mathlib.Core.List.{List, [], _∷_, map}

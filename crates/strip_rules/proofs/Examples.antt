@@ -1,5 +1,4 @@
 -- Stripping at worked examples, computed: which fields go, the sums, the answers in order, and what is left in the lent buffer.
--- Assumes nothing.
 use Prim.Native.Nat.{ℕ}
 use mathlib.Core.Path.{_≡_, refl}
 use mathlib.Core.List.{List, [], _∷_, _++_, map}

@@ -1,5 +1,5 @@
 -- Demand 2's sentence on stripping, said of each field by itself: it removes exactly the Authentication-Results fields whose identifier is on our
--- own list or can't be read, and keeps every other one in order. Assumes nothing: these are definitions.
+-- own list or can't be read, and keeps every other one in order.
 use Prim.Native.Nat.{ℕ}
 use mathlib.Core.Path.{_≡_}
 use mathlib.Core.Bool.{true}

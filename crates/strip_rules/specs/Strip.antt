@@ -1,4 +1,4 @@
--- Document 01, "Stripping", and its answers in order. Assumes nothing: these are definitions.
+-- Document 01, "Stripping", and its answers in order.
 use Prim.Native.Nat.{ℕ, zero, suc}
 use mathlib.Core.Bool.{Bool, true, false, not, _&&_}
 use mathlib.Core.List.{List, []}

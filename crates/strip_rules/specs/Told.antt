@@ -1,4 +1,4 @@
--- What the theorems on stripping speak of. Assumes nothing: these are definitions.
+-- What the theorems on stripping speak of.
 use Prim.Native.Nat.{ℕ, _≤_}
 use mathlib.Core.Path.{_≡_}
 use mathlib.Core.List.{List}

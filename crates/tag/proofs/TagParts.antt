@@ -1,5 +1,5 @@
 -- The parts of a tag as the code finds them: the name, the value by runs of plain bytes, and the tag at a place
--- tied to its parser. The premises are the tests of the code in turn. Assumes nothing.
+-- tied to its parser. The premises are the tests of the code in turn.
 use Prim.Native.Nat.{ℕ, _+_, _≤_, _<_, zero-le}
 use native.Mathlib.Omega.{arith}
 use mathlib.Core.Path.{_≡_, refl, sym, subst, _∙_}

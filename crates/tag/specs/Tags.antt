@@ -1,4 +1,4 @@
--- What the code's answers say: a tag by its places. Assumes nothing: these are definitions.
+-- What the code's answers say: a tag by its places.
 use Prim.Native.Char.{code}
 use Prim.Native.Nat.{ℕ, _+_, _-_, _≤_, _<_}
 use mathlib.Core.Path.{_≡_}

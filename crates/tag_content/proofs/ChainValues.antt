@@ -1,4 +1,4 @@
--- White space around a chain value, and its words. Assumes nothing.
+-- White space around a chain value, and its words.
 use Prim.Native.Nat.{ℕ, zero, suc, _+_, _-_, _≤_, _<_, _^_, zero-le, suc-le-suc}
 use native.Mathlib.Nat.{not-suc-le-zero, le-of-suc-le-suc}
 use native.Mathlib.Omega.{arith}

@@ -1,5 +1,5 @@
 -- Tag lists: the tests of a collected list are those of the definition, and it has half as many tags as its body has bytes at most, for a tag
--- takes two bytes at least. Assumes nothing.
+-- takes two bytes at least.
 use Prim.Native.Nat.{ℕ, zero, suc, _+_, _*_, _≤_, _<_, zero-le}
 use native.Mathlib.Nat.{le-of-suc-le-suc}
 use native.Mathlib.Omega.{arith}

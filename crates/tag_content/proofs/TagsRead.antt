@@ -1,5 +1,5 @@
 -- The tags of a list, one after another: with `done` the tags read so far, the list is `done` and then the tags from here on, none is named
--- twice or i, and the chain value is that of `done`. By what one tag more does to each of these. Assumes nothing.
+-- twice or i, and the chain value is that of `done`. By what one tag more does to each of these.
 use Prim.Native.Char.{code}
 use Prim.Native.Nat.{ℕ, _+_, _-_, _≤_, _<_, zero-le}
 use native.Mathlib.Omega.{arith}

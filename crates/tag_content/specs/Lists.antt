@@ -1,4 +1,4 @@
--- What a tag list from a place of a body on says: that of a signature or a seal. Assumes nothing: these are definitions.
+-- What a tag list from a place of a body on says: that of a signature or a seal.
 use Prim.Native.Nat.{ℕ}
 use mathlib.Core.Bool.{Bool, true, false}
 use mathlib.Core.List.{List}

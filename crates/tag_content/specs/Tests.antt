@@ -1,5 +1,4 @@
--- What is known of a tag list whose names are in a table, each by the place of its first byte: while its tags are read, and when they have been. Assumes
--- nothing: these are definitions.
+-- What is known of a tag list whose names are in a table, each by the place of its first byte: while its tags are read, and when they have been.
 use Prim.Native.Nat.{ℕ, _≤_}
 use mathlib.Core.Path.{_≡_}
 use mathlib.Core.Bool.{Bool, true, false, cond, _&&_, _||_}

@@ -1,4 +1,4 @@
--- What an attempt says is what the list says: a small table serves unless it is full, and one of 32,768 entries is never full. Assumes nothing.
+-- What an attempt says is what the list says: a small table serves unless it is full, and one of 32,768 entries is never full.
 use Prim.Native.Nat.{ℕ, _≤_, _<_}
 use native.Mathlib.Omega.{arith}
 use mathlib.Core.Path.{_≡_, refl}

@@ -1,5 +1,5 @@
 -- Names linked by buckets: the walk along the links of a bucket passes by names of other buckets only, so that a name is found where it is held; and the
--- loop that collects the tags of a list so. Assumes nothing.
+-- loop that collects the tags of a list so.
 use Prim.Native.Nat.{ℕ, zero, suc, _+_, _-_, _%_, _≤_, _<_, zero-le}
 use native.Mathlib.Nat.{eq-or-lt-of-le, le-of-suc-le-suc, not-suc-le-zero}
 use native.Mathlib.Numerals.{add-one}

@@ -1,4 +1,4 @@
--- What the code's answer tells of a tag list. Assumes nothing: these are definitions.
+-- What the code's answer tells of a tag list.
 use Prim.Native.Nat.{ℕ}
 use mathlib.Core.Option.{Option, none, some}
 use Rattle.tag_list.specs.declared.Listed.{Listed}

@@ -1,4 +1,4 @@
--- The loop that clears a table: what it has passed is zeros. Assumes nothing.
+-- The loop that clears a table: what it has passed is zeros.
 use Prim.Native.Nat.{ℕ, zero, suc, _+_, _≤_, _<_}
 use native.Mathlib.Numerals.{add-one}
 use native.Mathlib.Omega.{arith}

@@ -1,5 +1,5 @@
 -- The loop that collects the tags of a list with their names in order: a slot says whether a name is held, and a name that is put in at its slot is
--- held with the others. Assumes nothing.
+-- held with the others.
 use Prim.Native.Nat.{ℕ, _+_, _%_, _≤_, _<_, zero-le}
 use native.Mathlib.Omega.{arith}
 use mathlib.Core.Path.{_≡_, refl, sym, _∙_}

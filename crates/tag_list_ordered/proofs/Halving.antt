@@ -1,6 +1,5 @@
 -- A table of names in order: the loop that finds a name by halving, the loop that makes room for a place, and what an inserted place does
 -- to the names kept. Names before `lo` are before the name sought and those from `hi` on are after it, so the slot stands between.
--- Assumes nothing.
 use Prim.Native.Nat.{ℕ, zero, suc, _+_, _-_, _/_, _≤_, _<_, zero-le, suc-le-suc}
 use native.Mathlib.Nat.{eq-or-lt-of-le, add-zero, zero-add, le-of-suc-le-suc, not-suc-le-zero}
 use native.Mathlib.Numerals.{add-one}

@@ -1,5 +1,5 @@
 -- Names in order: a name has one slot among them, which is taken where the name is held; and i is taken from the start. By induction on the
--- lists of names. Assumes nothing.
+-- lists of names.
 use Prim.Native.Nat.{ℕ, suc, _+_, _≤_, _<_}
 use native.Mathlib.Omega.{arith}
 use mathlib.Core.Path.{_≡_, refl, sym, ap, _∙_}

@@ -1,4 +1,4 @@
--- The bytes of a name mixed into a number: the loop, and that the number is below 32,768. Assumes nothing.
+-- The bytes of a name mixed into a number: the loop, and that the number is below 32,768.
 use Prim.Native.Nat.{ℕ, zero, suc, _+_, _*_, _/_, _%_, _≤_, _<_}
 use native.Mathlib.Numerals.{add-one}
 use native.Mathlib.Omega.{arith}

@@ -1,5 +1,5 @@
 -- The name at the front of bytes: the byte at a place, and the loop that compares. From each place of the loop on the name stands to the other as
--- it does from the start. And for a name of a name's bytes this is the order of the two names. Assumes nothing.
+-- it does from the start. And for a name of a name's bytes this is the order of the two names.
 use Prim.Native.Nat.{ℕ, zero, suc, _+_, _-_, _≤_, _<_}
 use native.Mathlib.Nat.{le-of-suc-le-suc}
 use native.Mathlib.Numerals.{add-one}

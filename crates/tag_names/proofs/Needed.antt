@@ -1,5 +1,5 @@
 -- Names that stand at places: the loop that looks for one, the tests for those that a signature and a seal need, and that they are tests of the
--- names at the places. Assumes nothing.
+-- names at the places.
 use Prim.Native.Nat.{ℕ, zero, suc, _+_, _≤_, _<_}
 use native.Mathlib.Numerals.{add-one}
 use native.Mathlib.Omega.{arith}

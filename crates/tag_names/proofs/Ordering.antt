@@ -1,5 +1,5 @@
 -- The order of names: `compared` says Same of equal names only and is an order. By induction on the names, case by case on the first
--- bytes. Assumes nothing.
+-- bytes.
 use Prim.Native.Nat.{ℕ, _≤_, _<_}
 use native.Mathlib.Omega.{arith}
 use mathlib.Core.Path.{_≡_, refl, sym, ap, _∙_}

@@ -1,4 +1,4 @@
--- Names of tags at places of a body. Assumes nothing: these are definitions.
+-- Names of tags at places of a body.
 use Prim.Native.Nat.{ℕ, _+_, _*_, _/_, _%_}
 use mathlib.Core.Path.{_≡_}
 use mathlib.Core.Bool.{Bool, true, false, not, _&&_, _||_}

@@ -1,4 +1,4 @@
--- Every definition of a tag list opened at once: `unfolding opened` lets a proof compute with all of them. Assumes nothing.
+-- Every definition of a tag list opened at once: `unfolding opened` lets a proof compute with all of them.
 use Rattle.base_readers.specs.Texts.{starts}
 use Rattle.base_readers.specs.Parsers.{after, _>>=_, give, when, end, byte, taken, skipping, text, either, cons, several}
 use Rattle.lexis_rules.proofs.Examples as lexis

@@ -1,5 +1,4 @@
 -- Tags and tag lists at worked examples, computed: which bytes a name and a value hold, what a tag says, and where a list ends.
--- Assumes nothing.
 use Prim.Native.Nat.{ℕ, zero, suc}
 use mathlib.Core.Path.{_≡_, refl}
 use mathlib.Core.Bool.{Bool, true, false}

@@ -1,4 +1,4 @@
--- Document 01, "The chain": tag lists as in DKIM (RFC 6376, 3.2). Assumes nothing: these are definitions.
+-- Document 01, "The chain": tag lists as in DKIM (RFC 6376, 3.2).
 use Prim.Native.Char.{code}
 use Prim.Native.Nat.{ℕ, zero, suc}
 use mathlib.Core.Bool.{Bool, true, false, not, cond, _&&_, _||_}

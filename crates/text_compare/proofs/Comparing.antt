@@ -1,4 +1,4 @@
--- Two texts compared without case, byte by byte and several bytes at once, as the loops of the code walk over them. The premises are literally what a need is handed. Assumes nothing.
+-- Two texts compared without case, byte by byte and several bytes at once, as the loops of the code walk over them. The premises are literally what a need is handed.
 use Prim.Native.Nat.{ℕ, _+_, _-_, _≤_, _<_}
 use native.Mathlib.Nat.{add-zero}
 use native.Mathlib.Numerals.{add-one}

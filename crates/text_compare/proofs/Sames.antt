@@ -1,4 +1,4 @@
--- Two runs of bytes, compared from a place on. Assumes nothing.
+-- Two runs of bytes, compared from a place on.
 use Prim.Native.Nat.{ℕ, suc, _+_, _≤_, _<_}
 use native.Mathlib.Numerals.{add-one}
 use native.Mathlib.Omega.{arith}

@@ -1,4 +1,4 @@
--- The digits of a number one at a time: one digit below ten, and else those of its tenth and its last. Assumes nothing.
+-- The digits of a number one at a time: one digit below ten, and else those of its tenth and its last.
 use Prim.Native.Nat.{ℕ, zero, suc, _+_, _/_, _%_, _≤_, _<_}
 use native.Mathlib.Omega.{arith}
 use mathlib.Core.Path.{_≡_, refl, sym, ap, _∙_}

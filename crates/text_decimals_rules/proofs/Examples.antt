@@ -1,4 +1,4 @@
--- Numbers in decimal digits at worked examples, by computing them. Assumes nothing.
+-- Numbers in decimal digits at worked examples, by computing them.
 use mathlib.Core.Path.{_≡_, refl}
 use mathlib.Core.List.{[], _∷_}
 use Rattle.base_readers.specs.Texts.{bytes}

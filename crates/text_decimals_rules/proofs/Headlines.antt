@@ -1,4 +1,4 @@
--- A number in decimal digits: the digits tell it, no zero stands in front, and how many there are at most. Assumes nothing.
+-- A number in decimal digits: the digits tell it, no zero stands in front, and how many there are at most.
 use Prim.Native.Nat.{ℕ, zero, suc, _+_, _*_, _-_, _/_, _%_, _≤_, _<_, _^_}
 use native.Mathlib.Nat.{pow-suc}
 use native.Mathlib.Omega.{arith}

@@ -1,4 +1,4 @@
--- Numbers in decimal digits, as the command writes them: no zero in front, and "0" for 0. Assumes nothing: these are definitions.
+-- Numbers in decimal digits, as the command writes them: no zero in front, and "0" for 0.
 use Prim.Native.Char.{code}
 use Prim.Native.Nat.{ℕ, zero, suc, _+_, _*_, _-_, _/_, _%_}
 use mathlib.Core.Bool.{true, false}

@@ -1,4 +1,4 @@
--- What is known by what became of the text of a first pass, and the other way round. Assumes nothing.
+-- What is known by what became of the text of a first pass, and the other way round.
 use Prim.Native.Nat.{ℕ, _≤_, _<_}
 use native.Mathlib.Omega.{arith}
 use mathlib.Core.Path.{_≡_, refl, sym, ap, _∙_}

@@ -1,4 +1,4 @@
--- What becomes of the text of a first pass. Assumes nothing: these are definitions.
+-- What becomes of the text of a first pass.
 use Prim.Native.Nat.{ℕ}
 use mathlib.Core.Bool.{true, false}
 use mathlib.Core.List.{List}

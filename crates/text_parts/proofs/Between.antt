@@ -1,4 +1,4 @@
--- What stands between the parts that are left out, written one after another. Assumes nothing.
+-- What stands between the parts that are left out, written one after another.
 use Prim.Native.Nat.{ℕ, suc, _+_, _<_, _^_}
 use native.Mathlib.Numerals.{add-one}
 use native.Mathlib.Omega.{arith}

@@ -1,4 +1,4 @@
--- A list without some of its parts. Assumes nothing: these are definitions.
+-- A list without some of its parts.
 use Prim.Native.Nat.{ℕ, zero, suc}
 use mathlib.Core.List.{List, [], _++_}
 use lib.ListN.{length, getD}

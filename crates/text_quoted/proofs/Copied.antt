@@ -1,4 +1,4 @@
--- The text of a quoted string, as the loop of the code writes it: what the loop keeps, one turn, and the end. The premises are literally what a need is handed. Assumes nothing.
+-- The text of a quoted string, as the loop of the code writes it: what the loop keeps, one turn, and the end. The premises are literally what a need is handed.
 use Prim.Native.Nat.{ℕ, zero, suc, _+_, _-_, _≤_, _<_, _^_}
 use native.Mathlib.Omega.{arith}
 use mathlib.Core.Path.{_≡_, refl, sym, _∙_}

@@ -1,4 +1,4 @@
--- Phrases as the code finds them. The premises are literally what a need is handed. Assumes nothing.
+-- Phrases as the code finds them. The premises are literally what a need is handed.
 use Prim.Native.Nat.{ℕ, zero, suc, _+_, _-_, _≤_, _<_}
 use native.Mathlib.Nat.{add-zero, zero-add}
 use native.Mathlib.Omega.{arith}

@@ -1,4 +1,4 @@
--- The digits of a number as the code stores them: one below ten, and else those of its tenth and the last. Assumes nothing.
+-- The digits of a number as the code stores them: one below ten, and else those of its tenth and the last.
 use Prim.Native.Nat.{ℕ, _+_, _/_, _%_, _≤_, _<_, _^_}
 use native.Mathlib.Omega.{arith}
 use mathlib.Core.List.{List, [], _∷_}

@@ -1,5 +1,5 @@
 -- Texts as they stand and in lower case, as the loops of the code write them: what each
--- loop keeps, one turn, and the end. The premises are literally what a need is handed. Assumes nothing.
+-- loop keeps, one turn, and the end. The premises are literally what a need is handed.
 use Prim.Native.Nat.{ℕ, _+_, _-_, _≤_, _<_}
 use native.Mathlib.Omega.{arith}
 use mathlib.Core.Path.{_≡_, refl}

@@ -1,4 +1,4 @@
--- One of several phrases that stand in one text, with a bar between each and the next. Assumes nothing: these are definitions.
+-- One of several phrases that stand in one text, with a bar between each and the next.
 use Prim.Native.Char.{code}
 use Prim.Native.Nat.{ℕ, zero, suc, _+_}
 use mathlib.Core.Bool.{Bool, cond, not}

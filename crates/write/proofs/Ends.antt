@@ -1,6 +1,6 @@
 -- The answers, one law for each way out of the code: lines that are refused leave the buffer as it is, and those that are accepted fill its
 -- front with exactly their body, copied from the first pass's buffer where it fits that, and else written by a second pass, which is lent as
--- much room as the first one measured. Assumes nothing.
+-- much room as the first one measured.
 use Prim.Native.Nat.{ℕ, _≤_, _<_}
 use native.Mathlib.Omega.{arith}
 use mathlib.Core.Path.{_≡_, sym, ap, _∙_}

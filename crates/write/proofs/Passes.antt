@@ -1,4 +1,4 @@
--- The loop over lines: what it keeps, and one law for each way out. Assumes nothing.
+-- The loop over lines: what it keeps, and one law for each way out.
 use Prim.Native.Nat.{ℕ, _+_, _-_, _^_, _≤_, _<_, min, zero-le, suc-le-suc}
 use native.Mathlib.Nat.{add-zero}
 use native.Mathlib.Numerals.{add-one}

@@ -1,4 +1,4 @@
--- States by their numbers: the code's tests say what the definitions say. Assumes nothing.
+-- States by their numbers: the code's tests say what the definitions say.
 use Prim.Native.Nat.{ℕ, _<_}
 use native.Mathlib.Omega.{arith}
 use mathlib.Core.Path.{_≡_, refl}

@@ -1,4 +1,4 @@
--- Whether a property may be reported: one law for each way out of the code, and the two cases that its answer tells. Assumes nothing.
+-- Whether a property may be reported: one law for each way out of the code, and the two cases that its answer tells.
 use Prim.Native.Nat.{ℕ, _+_, _-_, _^_, _≤_, _<_}
 use native.Mathlib.Omega.{arith}
 use mathlib.Core.Path.{_≡_, refl, sym, ap, _∙_}

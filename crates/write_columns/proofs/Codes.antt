@@ -1,4 +1,4 @@
--- A byte of a text as the report writes it, by the tests of the code. Assumes nothing.
+-- A byte of a text as the report writes it, by the tests of the code.
 use Prim.Native.Nat.{ℕ, _+_, _-_, _*_, _^_, _≤_, _<_, zero-le}
 use native.Mathlib.Omega.{arith}
 use mathlib.Core.Path.{_≡_, refl, sym, ap, _∙_}

@@ -1,4 +1,4 @@
--- Keyword columns: one law for each way out of the code, and the two cases that its answer tells. Assumes nothing.
+-- Keyword columns: one law for each way out of the code, and the two cases that its answer tells.
 use Prim.Native.Nat.{ℕ, zero, suc, _+_, _-_, _≤_, _<_}
 use native.Mathlib.Numerals.{add-one}
 use native.Mathlib.Omega.{arith}

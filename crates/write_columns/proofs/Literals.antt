@@ -1,4 +1,4 @@
--- The words that lines start with: the loop that compares them, and the parser that it stands for. Assumes nothing.
+-- The words that lines start with: the loop that compares them, and the parser that it stands for.
 use Prim.Native.Nat.{ℕ, suc, _+_, _-_, _^_, _≤_, _<_, zero-le, suc-le-suc}
 use native.Mathlib.Nat.{add-zero}
 use native.Mathlib.Numerals.{add-one}

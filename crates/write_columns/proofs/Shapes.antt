@@ -1,4 +1,4 @@
--- Property values in columns, by the tests of the code: one law for each way out. Assumes nothing.
+-- Property values in columns, by the tests of the code: one law for each way out.
 use Prim.Native.Nat.{ℕ, zero, suc, _+_, _-_, _≤_, _<_, zero-le, suc-le-suc}
 use native.Mathlib.Nat.{le-of-suc-le-suc, not-suc-le-zero, zero-add}
 use native.Mathlib.Omega.{arith}

@@ -1,4 +1,4 @@
--- Kind letters, texts and LF at the end of a line, by the tests of the code. Assumes nothing.
+-- Kind letters, texts and LF at the end of a line, by the tests of the code.
 use Prim.Native.Nat.{ℕ, _+_, _-_, _^_, _<_}
 use native.Mathlib.Nat.{add-zero}
 use native.Mathlib.Omega.{arith}

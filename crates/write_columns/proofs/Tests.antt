@@ -1,4 +1,4 @@
--- Texts that are tested byte by byte: what each loop keeps, one turn, and the end. Assumes nothing.
+-- Texts that are tested byte by byte: what each loop keeps, one turn, and the end.
 use Prim.Native.Nat.{ℕ, zero, suc, _+_, _-_}
 use native.Mathlib.Omega.{arith}
 use mathlib.Core.Path.{_≡_, refl, sym, ap, _∙_}

@@ -1,5 +1,4 @@
--- What is said of the columns of a line, for this crate and those that write what it reads: no other contract cites these. Assumes nothing:
--- these are definitions.
+-- What is said of the columns of a line, for this crate and those that write what it reads: no other contract cites these.
 use Prim.Native.Nat.{ℕ, _+_, _-_, _≤_, _<_}
 use mathlib.Core.Path.{_≡_}
 use mathlib.Core.Bool.{Bool, true, cond, _&&_}

@@ -1,5 +1,5 @@
 -- The answer by its cases: written, too long, too little room, refused with a place. From the walk along the lines, and from the size of the
--- body. Assumes nothing.
+-- body.
 use Prim.Native.Nat.{ℕ, suc, _+_, _≤_, _<_, zero-le, suc-le-suc}
 use native.Mathlib.Nat.{le-of-suc-le-suc}
 use native.Mathlib.Omega.{arith}

@@ -1,5 +1,5 @@
 -- The place: where a walk along the lines is stuck, no report has the same lines one line further, because a line says one thing only; and up
--- to there one has, because every state has lines that complete it. Assumes nothing.
+-- to there one has, because every state has lines that complete it.
 use Prim.Native.Nat.{ℕ, suc, _≤_}
 use native.Mathlib.Omega.{arith}
 use mathlib.Core.Path.{_≡_, refl, sym, ap, _∙_, subst}

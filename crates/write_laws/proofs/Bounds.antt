@@ -1,5 +1,5 @@
 -- The bytes of keywords, domains and local parts are below 127, because each range and each list of their classes is. So what holds of such
--- bytes can be computed for all of them. Assumes nothing.
+-- bytes can be computed for all of them.
 use Prim.Native.Nat.{ℕ, _≤_, _<_, suc-le-suc}
 use native.Mathlib.Omega.{arith}
 use mathlib.Core.Path.{_≡_, refl}

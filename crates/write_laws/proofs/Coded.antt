@@ -1,5 +1,5 @@
 -- Texts as the report writes them: what is written is read back, for bytes; and what is read is what is written. For one byte by computing it
--- for all 256, for a text by repeating that. Assumes nothing.
+-- for all 256, for a text by repeating that.
 use Prim.Native.Char.{code}
 use Prim.Native.Nat.{ℕ, suc, _+_, _*_, _/_, _%_, _≤_, _<_, zero-le, suc-le-suc}
 use native.Mathlib.Nat.{le-refl}

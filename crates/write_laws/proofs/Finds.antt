@@ -1,5 +1,5 @@
 -- What is known of a value that a parser gives and of the bytes that it takes: R holds of the two. From the same of its parts, by taking apart
--- what the parts took. Assumes nothing.
+-- what the parts took.
 use Prim.Native.Nat.{ℕ, zero, suc, _≤_}
 use native.Mathlib.Nat.{le-refl}
 use native.Mathlib.Omega.{arith}

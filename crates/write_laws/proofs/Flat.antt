@@ -1,5 +1,5 @@
 -- Lines and what a body says: the lines of results may follow one another, and lines that may follow one another are those of results. By
--- induction over the results, and over the lines. Assumes nothing.
+-- induction over the results, and over the lines.
 use Prim.Native.Nat.{ℕ, _+_}
 use native.Mathlib.Omega.{arith}
 use mathlib.Core.Path.{_≡_, refl, sym, ap, _∙_, subst}

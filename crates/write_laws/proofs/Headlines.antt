@@ -1,5 +1,5 @@
 -- 02, ticket [1], "Write our own field": the theorems, each under the sentence that it proves, with an instance where it has premises. They
--- hold of every list of lines and every room; each is read off the cases of the answer (Answering). Assumes nothing.
+-- hold of every list of lines and every room; each is read off the cases of the answer (Answering).
 use Prim.Native.Nat.{ℕ, _≤_}
 use native.Mathlib.Omega.{arith}
 use mathlib.Core.Path.{_≡_, refl, sym, ap, _∙_, subst}

@@ -1,4 +1,4 @@
--- Whole bodies: what is written is read back, and what is read can stand. From the same of the identifier and of the results. Assumes nothing.
+-- Whole bodies: what is written is read back, and what is read can stand. From the same of the identifier and of the results.
 use Prim.Native.Nat.{ℕ, suc}
 use mathlib.Core.Path.{_≡_, refl, _∙_}
 use mathlib.Core.Bool.{Bool, true, false, not, _&&_, _||_}

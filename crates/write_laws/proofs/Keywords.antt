@@ -1,5 +1,4 @@
 -- Keywords in lower case: what is written is read back, what is read is one, and those of the tables are such, by computing all of them.
--- Assumes nothing.
 use Prim.Native.Nat.{ℕ, suc, _-_}
 use native.Mathlib.Omega.{arith}
 use mathlib.Core.Path.{_≡_, refl, sym, ap, _∙_}

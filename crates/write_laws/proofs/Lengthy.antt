@@ -1,5 +1,5 @@
 -- Lines whose body is over the limit, which is too high to compute with: those with an identifier of n letters have a body of more than n
--- bytes, because what is written for a text is no shorter than the text. Assumes nothing.
+-- bytes, because what is written for a text is no shorter than the text.
 use Prim.Native.Nat.{ℕ, zero, suc, _≤_, _<_, zero-le, suc-le-suc}
 use native.Mathlib.Omega.{arith}
 use mathlib.Core.Path.{_≡_, refl, ap}

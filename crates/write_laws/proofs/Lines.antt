@@ -1,5 +1,5 @@
 -- One line: what the report writes is read back, and what is read is what the report writes. Column by column along the grammar of the line;
--- the first byte tells which line it is. Assumes nothing.
+-- the first byte tells which line it is.
 use Prim.Native.Nat.{ℕ}
 use mathlib.Core.Path.{_≡_, refl, sym, ap}
 use mathlib.Core.Bool.{Bool, true, false, _&&_}

@@ -1,5 +1,5 @@
 -- Texts that are written bare or as quoted strings: what is written is read back, and what is read is a text of bytes that can be quoted. By
--- induction over the text, a byte or a backslash with its byte at a time. Assumes nothing.
+-- induction over the text, a byte or a backslash with its byte at a time.
 use Prim.Native.Nat.{ℕ, zero, suc, _+_, _≤_, zero-le, suc-le-suc}
 use native.Mathlib.Omega.{arith}
 use mathlib.Core.Path.{_≡_, refl, sym, ap, _∙_}

@@ -1,4 +1,4 @@
--- Results that are read: their texts are of bytes and can stand, part by part along the grammar of a result. Assumes nothing.
+-- Results that are read: their texts are of bytes and can stand, part by part along the grammar of a result.
 use Prim.Native.Nat.{ℕ}
 use mathlib.Core.Path.{_≡_, refl}
 use mathlib.Core.Bool.{true}

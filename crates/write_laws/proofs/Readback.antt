@@ -1,5 +1,5 @@
 -- What a parser reads of a text that was written: all of it, with this value, whatever follows as long as F holds of that. From the same of
--- its parts, by putting the texts one after the other. Assumes nothing.
+-- its parts, by putting the texts one after the other.
 use Prim.Native.Nat.{ℕ, suc, _≤_}
 use native.Mathlib.Nat.{le-refl}
 use native.Mathlib.Omega.{arith}

@@ -1,5 +1,5 @@
 -- What is written for lines that may follow one another has these lines as its report, and the report of every body without ignored results
--- is of such lines: both by what the results of a body say, line by line. Assumes nothing.
+-- is of such lines: both by what the results of a body say, line by line.
 use Prim.Native.Nat.{ℕ, _≤_}
 use native.Mathlib.Nat.{le-refl}
 use native.Mathlib.Omega.{arith}

@@ -1,4 +1,4 @@
--- Results: what is written is read back, part by part along the grammar of a result. Assumes nothing.
+-- Results: what is written is read back, part by part along the grammar of a result.
 use Prim.Native.Char.{code}
 use Prim.Native.Nat.{ℕ, _≤_, zero-le, suc-le-suc}
 use mathlib.Core.Path.{_≡_, refl, sym, ap, _∙_}

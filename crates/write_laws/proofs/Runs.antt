@@ -1,5 +1,4 @@
 -- Lines one after the other: a walk goes through the lines that may follow one another, up to the end or the first that can't go on.
--- Assumes nothing.
 use Prim.Native.Nat.{ℕ, zero, suc, _+_, _-_, _≤_, _<_, zero-le, suc-le-suc}
 use native.Mathlib.Nat.{add-zero, le-refl}
 use native.Mathlib.Omega.{arith}

@@ -1,5 +1,5 @@
 -- The last "@" of a text is the last "@" of the text as the report writes it, and a domain is written as it stands: so code may cut a column
--- before it decodes it. By induction over the text. Assumes nothing.
+-- before it decodes it. By induction over the text.
 use Prim.Native.Nat.{ℕ, _+_, _-_, _/_, _%_}
 use native.Mathlib.Omega.{arith}
 use mathlib.Core.Path.{_≡_, refl, sym, ap, _∙_}

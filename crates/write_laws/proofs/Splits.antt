@@ -1,4 +1,4 @@
--- The lines of a text, each with its LF: those of lines one after the other are these lines, because no column has an LF. Assumes nothing.
+-- The lines of a text, each with its LF: those of lines one after the other are these lines, because no column has an LF.
 use Prim.Native.Char.{code}
 use Prim.Native.Nat.{ℕ, _+_, _-_, _/_, _%_}
 use native.Mathlib.Omega.{arith}

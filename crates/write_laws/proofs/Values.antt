@@ -1,5 +1,5 @@
 -- Property values: what is written is read back, and what is read can stand. Kind by kind, along the parser: which kind is tried is known by
--- whether "@" follows. Assumes nothing.
+-- whether "@" follows.
 use Prim.Native.Nat.{ℕ, suc}
 use mathlib.Core.Path.{_≡_, refl, sym, ap, _∙_, subst}
 use mathlib.Core.Bool.{Bool, true, false, not, _&&_, _||_}

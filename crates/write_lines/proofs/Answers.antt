@@ -1,4 +1,4 @@
--- An answer by its two places; the first byte tells which line stands at a place; what `put_line` says of it. Assumes nothing.
+-- An answer by its two places; the first byte tells which line stands at a place; what `put_line` says of it.
 use Prim.Native.Nat.{ℕ}
 use mathlib.Core.Path.{_≡_, refl, sym, ap, _∙_}
 use mathlib.Core.Bool.{false}

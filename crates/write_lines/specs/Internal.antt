@@ -1,5 +1,4 @@
--- What is said of a line as its piece of the body, for this crate and the one that writes all lines: no other contract cites these. Assumes
--- nothing: these are definitions.
+-- What is said of a line as its piece of the body, for this crate and the one that writes all lines: no other contract cites these.
 use Prim.Native.Char.{code}
 use Prim.Native.Nat.{ℕ, _+_, _≤_, _<_, min}
 use mathlib.Core.Path.{_≡_}

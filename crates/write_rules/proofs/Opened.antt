@@ -1,4 +1,4 @@
--- Every definition of our own field opened at once: `unfolding opened` lets a proof compute with all of them. Assumes nothing.
+-- Every definition of our own field opened at once: `unfolding opened` lets a proof compute with all of them.
 use Rattle.base_readers.specs.Parsers.{either}
 use Rattle.report_rules.proofs.Opened as body
 use Rattle.write_rules.specs.Entries as entries

@@ -1,5 +1,5 @@
 -- 02, ticket [1], "Write our own field", at worked examples: the computed answers are the stated ones. Every rule has an accepted neighbour
--- and a refused or differently written one. A body over the limit is too long to compute with: see Lengthy. Assumes nothing.
+-- and a refused or differently written one. A body over the limit is too long to compute with: see Lengthy.
 use Prim.Native.Nat.{ℕ}
 use mathlib.Core.Path.{_≡_, refl}
 use mathlib.Core.List.{List, [], _∷_, _++_, map}

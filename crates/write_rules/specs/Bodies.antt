@@ -1,4 +1,4 @@
--- 02, ticket [1], "Write our own field": the body that is written. Assumes nothing: these are definitions.
+-- 02, ticket [1], "Write our own field": the body that is written.
 use Prim.Native.Char.{code}
 use Prim.Native.Nat.{ℕ}
 use mathlib.Core.Bool.{Bool, true, false, _&&_}

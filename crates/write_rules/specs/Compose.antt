@@ -1,4 +1,4 @@
--- 02, ticket [1], "Write our own field": which lines may follow one another, and the answer. Assumes nothing: these are definitions.
+-- 02, ticket [1], "Write our own field": which lines may follow one another, and the answer.
 use Prim.Native.Nat.{ℕ, zero, suc, _-_}
 use mathlib.Core.Bool.{Bool, true, false}
 use mathlib.Core.List.{List, [], _∷_}

@@ -1,5 +1,5 @@
 -- 02, ticket [1], "Write our own field": which texts are report lines (document 01, "The report"), and what each says. A line is taken as a
--- grammar that reads back what the report writes. Assumes nothing: these are definitions.
+-- grammar that reads back what the report writes.
 use Prim.Native.Char.{code}
 use Prim.Native.Nat.{ℕ, _+_, _-_, _*_}
 use mathlib.Core.Bool.{Bool, true, false, cond, not, _&&_, _||_}

@@ -1,5 +1,4 @@
--- 02, ticket [1], "Write our own field": what is promised of the lines that are accepted and of those that are refused. Assumes nothing:
--- these are definitions.
+-- 02, ticket [1], "Write our own field": what is promised of the lines that are accepted and of those that are refused.
 use Prim.Native.Char.{code}
 use Prim.Native.Nat.{ℕ, suc, _≤_, _<_}
 use mathlib.Core.Path.{_≡_}

@@ -1,4 +1,4 @@
--- Texts that are stored byte by byte: what the loop keeps, one turn, and the end; then the whole text, bare or quoted. Assumes nothing.
+-- Texts that are stored byte by byte: what the loop keeps, one turn, and the end; then the whole text, bare or quoted.
 use Prim.Native.Nat.{ℕ, _+_, _^_, _<_}
 use native.Mathlib.Omega.{arith}
 use mathlib.Core.Path.{_≡_, refl, sym, ap, _∙_}

@@ -1,4 +1,4 @@
--- Property values: one law for each way out of the code, and that what is written of a column is what `write_rules` says of its text. Assumes nothing.
+-- Property values: one law for each way out of the code, and that what is written of a column is what `write_rules` says of its text.
 use Prim.Native.Nat.{ℕ, _-_, _^_, _≤_, _<_, zero-le, suc-le-suc}
 use native.Mathlib.Omega.{arith}
 use mathlib.Core.Path.{_≡_, refl, sym, ap, _∙_}

@@ -1,5 +1,5 @@
 -- What is written of the column that holds a property value: what `write_rules` says of its text (`Bodies.pvalue`), told by the column itself, so that
--- no premise on the column is needed. `proofs/Values.antt` has the law that says so. Assumes nothing: these are definitions.
+-- no premise on the column is needed. `proofs/Values.antt` has the law that says so.
 use Prim.Native.Char.{code}
 use Prim.Native.Nat.{ℕ}
 use mathlib.Core.Bool.{true, false, cond, _&&_}

@@ -1,4 +1,4 @@
--- `arc::field_of` meets its contract: each case is one of the definition. Assumes nothing.
+-- `arc::field_of` meets its contract: each case is one of the definition.
 use mathlib.Core.Path.{sym, ap}
 use borrow.Author.Needs.{needs}
 use Rattle.arc.specs.Internal.{fieldOf}

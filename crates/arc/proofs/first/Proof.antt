@@ -1,4 +1,4 @@
--- `arc::first` meets its contract: its test is the definition's. Assumes nothing.
+-- `arc::first` meets its contract: its test is the definition's.
 use borrow.Author.Tests.{eq-eqb, ne-eqb}
 use Rattle.arc.proofs.first.Statement.{statement}
 use Rattle.arc.proofs.first.Tie as tie

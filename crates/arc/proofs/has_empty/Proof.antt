@@ -1,4 +1,4 @@
--- `arc::has_empty` meets its contract: at each place of the nested loops what is left answers as the whole. Assumes nothing.
+-- `arc::has_empty` meets its contract: at each place of the nested loops what is left answers as the whole.
 use Prim.Native.Nat.{_-_}
 use native.Mathlib.Omega.{arith}
 use borrow.Author.Needs.{needs}

@@ -1,4 +1,4 @@
--- `arc::highest` meets its contract: its test is the definition's. Assumes nothing.
+-- `arc::highest` meets its contract: its test is the definition's.
 use borrow.Author.Tests.{lt-ltb, le-ltb}
 use Rattle.arc.proofs.highest.Statement.{statement}
 use Rattle.arc.proofs.highest.Tie as tie

@@ -1,4 +1,4 @@
--- `arc::is_prescribed` meets its contract: at each place the chain values that are left answer as all of them. Assumes nothing.
+-- `arc::is_prescribed` meets its contract: at each place the chain values that are left answer as all of them.
 use Prim.Native.Nat.{_-_}
 use native.Mathlib.Omega.{arith}
 use borrow.Author.Needs.{needs}

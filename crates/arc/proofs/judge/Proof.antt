@@ -1,4 +1,4 @@
--- `arc::judge` meets its contract: each way out is an answer of the definition, in its order. Assumes nothing.
+-- `arc::judge` meets its contract: each way out is an answer of the definition, in its order.
 use Rattle.arc.proofs.Judging.{judge-small, judge-complete-fits, answer-1, answer-2-4, answer-unread, answer-repeated, answer-none, answer-ranked}
 use borrow.Author.Needs.{needs}
 use Rattle.arc.proofs.judge.Statement.{statement}

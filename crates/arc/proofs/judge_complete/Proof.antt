@@ -1,4 +1,4 @@
--- `arc::judge_complete` meets its contract: each way out is a case of the definition. Assumes nothing.
+-- `arc::judge_complete` meets its contract: each way out is a case of the definition.
 use Rattle.arc.proofs.Judging.{judge-complete-gap, judge-complete-fail, judge-complete-built, judge-complete-not}
 use borrow.Author.Needs.{needs}
 use Rattle.arc.proofs.judge_complete.Statement.{statement}

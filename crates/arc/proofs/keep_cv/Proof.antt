@@ -1,4 +1,4 @@
--- `arc::keep_cv` meets its contract: each kind is a case of the definition. Assumes nothing.
+-- `arc::keep_cv` meets its contract: each kind is a case of the definition.
 use borrow.Author.Needs.{needs}
 use Rattle.arc.proofs.keep_cv.Statement.{statement}
 use Rattle.arc.proofs.keep_cv.Tie as tie

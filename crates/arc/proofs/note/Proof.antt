@@ -1,4 +1,4 @@
--- `arc::note` meets its contract: a field of another kind is passed over, one that reads is placed, any other is unreadable. Assumes nothing.
+-- `arc::note` meets its contract: a field of another kind is passed over, one that reads is placed, any other is unreadable.
 use Rattle.arc.proofs.Noting.{note-other, read-range, note-read, note-unread}
 use borrow.Author.Needs.{needs}
 use Rattle.arc.proofs.note.Statement.{statement}

@@ -1,4 +1,4 @@
--- `arc::place` meets its contract: both ways out are cases of the definition. Assumes nothing.
+-- `arc::place` meets its contract: both ways out are cases of the definition.
 use Rattle.arc.proofs.Noting.{place-taken, place-free}
 use borrow.Author.Needs.{needs}
 use Rattle.arc.proofs.place.Statement.{statement}

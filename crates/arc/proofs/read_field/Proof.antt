@@ -1,4 +1,4 @@
--- `arc::read_field` meets its contract: an instance, and the list that its kind has. Assumes nothing.
+-- `arc::read_field` meets its contract: an instance, and the list that its kind has.
 use borrow.Author.Needs.{needs}
 use Rattle.arc.proofs.FieldReading.{field-results, field-signature, field-seal, field-other, field-missing}
 use Rattle.arc.proofs.read_field.Statement.{statement}

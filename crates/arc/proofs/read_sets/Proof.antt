@@ -1,4 +1,4 @@
--- `arc::read_sets` meets its contract: at each field the rest of the block is gathered to what the whole is. Assumes nothing.
+-- `arc::read_sets` meets its contract: at each field the rest of the block is gathered to what the whole is.
 use Prim.Native.Nat.{_-_}
 use native.Mathlib.Omega.{arith}
 use mathlib.Core.Path.{_≡_, sym, _∙_}

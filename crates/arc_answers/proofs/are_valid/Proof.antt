@@ -1,4 +1,4 @@
--- `arc_answers::are_valid` meets its contract: at each place the bytes that are left answer as all of them. Assumes nothing.
+-- `arc_answers::are_valid` meets its contract: at each place the bytes that are left answer as all of them.
 use Prim.Native.Nat.{_-_}
 use native.Mathlib.Omega.{arith}
 use borrow.Author.Needs.{needs}

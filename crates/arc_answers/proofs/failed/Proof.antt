@@ -1,4 +1,4 @@
--- `arc_answers::failed` meets its contract: a failed chain has this answer by definition. Assumes nothing.
+-- `arc_answers::failed` meets its contract: a failed chain has this answer by definition.
 use mathlib.Core.Path.{refl}
 use Rattle.arc_rules.specs.Chain.{judged}
 use Rattle.arc_answers.proofs.failed.Statement.{statement}

@@ -1,4 +1,4 @@
--- `arc_answers::is_pass` meets its contract: the last signature is tested before the seals, and both must be good. Assumes nothing.
+-- `arc_answers::is_pass` meets its contract: the last signature is tested before the seals, and both must be good.
 use Rattle.arc_answers.proofs.Verdicts.{pass-none, pass-last, pass-bad}
 use borrow.Author.Needs.{needs}
 use Rattle.arc_answers.proofs.is_pass.Statement.{statement}

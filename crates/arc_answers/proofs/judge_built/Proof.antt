@@ -1,4 +1,4 @@
--- `arc_answers::judge_built` meets its contract: each way out is a case of the definition. Assumes nothing.
+-- `arc_answers::judge_built` meets its contract: each way out is a case of the definition.
 use Rattle.arc_answers.proofs.Built.{judge-built-bad, judge-built-pass, judge-built-fail}
 use borrow.Author.Needs.{needs}
 use Rattle.arc_answers.proofs.judge_built.Statement.{statement}

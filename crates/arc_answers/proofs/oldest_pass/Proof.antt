@@ -1,4 +1,4 @@
--- `arc_answers::oldest_pass` meets its contract: at each place the signatures before it answer as all of them. Assumes nothing.
+-- `arc_answers::oldest_pass` meets its contract: at each place the signatures before it answer as all of them.
 use native.Mathlib.Omega.{arith}
 use Rattle.arc_answers.proofs.Verdicts.{OldestTo, oldest-start, oldest-found, oldest-less, oldest-none}
 use Rattle.arc_answers.proofs.oldest_pass.Statement.{statement}

@@ -1,4 +1,4 @@
--- `arc_answers::seals_good` meets its contract: at each place the seals that are left answer as all of them. Assumes nothing.
+-- `arc_answers::seals_good` meets its contract: at each place the seals that are left answer as all of them.
 use Prim.Native.Nat.{_-_}
 use native.Mathlib.Omega.{arith}
 use borrow.Author.Needs.{needs}

@@ -1,4 +1,4 @@
--- `arc_fields::digit` meets its contract: a digit is 48 at least. Assumes nothing.
+-- `arc_fields::digit` meets its contract: a digit is 48 at least.
 use borrow.Author.Needs.{needs}
 use Rattle.arc_fields.proofs.Instances.{digit-low}
 use Rattle.arc_fields.proofs.digit.Statement.{statement}

@@ -1,4 +1,4 @@
--- `arc_fields::instance_of` meets its contract: each way through the code is a case of the parser. Assumes nothing.
+-- `arc_fields::instance_of` meets its contract: each way through the code is a case of the parser.
 use borrow.Author.Needs.{needs}
 use Rattle.arc_fields.proofs.Instances.{instance-no-name, instance-no-equals, instance-from}
 use Rattle.arc_fields.proofs.instance_of.Statement.{statement}

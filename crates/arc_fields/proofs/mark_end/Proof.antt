@@ -1,4 +1,4 @@
--- `arc_fields::mark_end` meets its contract: space and the byte behind it. Assumes nothing.
+-- `arc_fields::mark_end` meets its contract: space and the byte behind it.
 use borrow.Author.Needs.{needs}
 use Rattle.arc_fields.proofs.Instances.{mark-there, mark-other, mark-past}
 use Rattle.arc_fields.proofs.mark_end.Statement.{statement}

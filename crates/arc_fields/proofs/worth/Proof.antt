@@ -1,4 +1,4 @@
--- `arc_fields::worth` meets its contract: one or two digits, by the length of the text. Assumes nothing.
+-- `arc_fields::worth` meets its contract: one or two digits, by the length of the text.
 use native.Mathlib.Omega.{arith}
 use borrow.Author.Needs.{needs}
 use Rattle.arc_fields.proofs.Instances.{digit-alone, digit-first, digit-second, tens-fit, sum-fits, worth-one, worth-two, worth-none}

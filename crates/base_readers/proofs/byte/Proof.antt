@@ -1,4 +1,4 @@
--- `base_readers::byte` meets its contract: an element of a rest of the list is one of the list, and past the end stands 0. Assumes nothing.
+-- `base_readers::byte` meets its contract: an element of a rest of the list is one of the list, and past the end stands 0.
 use Prim.Native.Nat.{ℕ, _-_, _≤_}
 use native.Mathlib.Omega.{arith}
 use mathlib.Core.Path.{_≡_, sym}

@@ -1,4 +1,4 @@
--- `base_readers::is_at` meets its contract by that of `byte`. Assumes nothing.
+-- `base_readers::is_at` meets its contract by that of `byte`.
 use borrow.Author.Needs.{needs}
 use Rattle.base_readers.proofs.is_at.Statement.{statement}
 use Rattle.base_readers.proofs.is_at.Tie as tie

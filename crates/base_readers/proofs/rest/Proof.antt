@@ -1,4 +1,4 @@
--- `base_readers::rest` meets its contract: what is left is a difference, and past the end there is none. Assumes nothing.
+-- `base_readers::rest` meets its contract: what is left is a difference, and past the end there is none.
 use native.Mathlib.Omega.{arith}
 use mathlib.Core.Path.{refl}
 use borrow.Author.Needs.{needs}

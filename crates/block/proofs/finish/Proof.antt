@@ -1,4 +1,4 @@
--- `block::finish` meets its contract: by those of its calls. Assumes nothing.
+-- `block::finish` meets its contract: by those of its calls.
 use Rattle.block.proofs.Lines.{finish-2, finish-field}
 use borrow.Author.Needs.{needs}
 use Rattle.block.proofs.finish.Statement.{statement}

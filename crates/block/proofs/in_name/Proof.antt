@@ -1,4 +1,4 @@
--- `block::in_name` meets its contract: colon is the one byte from 33 to 126 that may not stand there. Assumes nothing.
+-- `block::in_name` meets its contract: colon is the one byte from 33 to 126 that may not stand there.
 use native.Mathlib.Omega.{arith}
 use mathlib.Core.Path.{sym}
 use Rattle.block.proofs.Lines.{name-byte, name-below, name-above}

@@ -1,4 +1,4 @@
--- `block::label_end` meets its contract: the name, the blanks after it, and a colon. Assumes nothing.
+-- `block::label_end` meets its contract: the name, the blanks after it, and a colon.
 use Rattle.base_readers.proofs.Loops.{there-fits}
 use Rattle.block.proofs.Lines.{label-none, label-no, label-yes}
 use borrow.Author.Needs.{needs}

@@ -1,4 +1,4 @@
--- `block::next_by_lines` meets its contract: each test of the code is one case of the definition. Assumes nothing.
+-- `block::next_by_lines` meets its contract: each test of the code is one case of the definition.
 use Rattle.block.proofs.Lines.{next-end, next-2, next-3, next-4, next-field}
 use native.Mathlib.Omega.{arith}
 use borrow.Author.Needs.{needs}

@@ -1,4 +1,4 @@
--- `block::next_field` meets its contract: a field that was found whole is the one that stands there. Assumes nothing.
+-- `block::next_field` meets its contract: a field that was found whole is the one that stands there.
 use borrow.Author.Needs.{needs}
 use Rattle.block.proofs.WholeFields.{whole-3, whole-4, whole-field}
 use Rattle.block.proofs.next_field.Statement.{statement}

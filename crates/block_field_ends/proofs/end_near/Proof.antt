@@ -1,5 +1,4 @@
--- `block_field_ends::end_near` meets its contract: from each place of the loop a field ends where it ends from the first, or it has no end from either. Assumes
--- nothing.
+-- `block_field_ends::end_near` meets its contract: from each place of the loop a field ends where it ends from the first, or it has no end from either.
 use Prim.Native.Nat.{_-_}
 use native.Mathlib.Omega.{arith}
 use borrow.Author.Needs.{needs}

@@ -1,5 +1,4 @@
--- `block_field_ends::has_break` meets its contract: as long as no byte has hit, a field ends from here on where it ends from the first place on. Assumes
--- nothing.
+-- `block_field_ends::has_break` meets its contract: as long as no byte has hit, a field ends from here on where it ends from the first place on.
 use Prim.Native.Nat.{_+_, _-_, _≤_}
 use native.Mathlib.Omega.{arith}
 use mathlib.Core.Path.{_≡_}

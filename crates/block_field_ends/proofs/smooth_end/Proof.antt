@@ -1,4 +1,4 @@
--- `block_field_ends::smooth_end` meets its contract: from each place of the loop a field goes on as it does from the first. Assumes nothing.
+-- `block_field_ends::smooth_end` meets its contract: from each place of the loop a field goes on as it does from the first.
 use Prim.Native.Nat.{_-_}
 use native.Mathlib.Omega.{arith}
 use borrow.Author.Needs.{needs}

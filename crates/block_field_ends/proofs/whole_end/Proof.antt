@@ -1,4 +1,4 @@
--- `block_field_ends::whole_end` meets its contract: by those of its calls. Assumes nothing.
+-- `block_field_ends::whole_end` meets its contract: by those of its calls.
 use native.Mathlib.Omega.{arith}
 use mathlib.Core.Path.{refl}
 use borrow.Author.Needs.{needs}

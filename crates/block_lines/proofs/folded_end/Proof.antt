@@ -1,4 +1,4 @@
--- `block_lines::folded_end` meets its contract: by those of its two calls. Assumes nothing.
+-- `block_lines::folded_end` meets its contract: by those of its two calls.
 use Rattle.block_lines.proofs.Lines.{folded-not, folded-is}
 use borrow.Author.Needs.{needs}
 use Rattle.block_lines.proofs.folded_end.Statement.{statement}

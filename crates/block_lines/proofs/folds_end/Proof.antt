@@ -1,4 +1,4 @@
--- `block_lines::folds_end` meets its contract: from each place of the loop the lines end where they end from the first. Assumes nothing.
+-- `block_lines::folds_end` meets its contract: from each place of the loop the lines end where they end from the first.
 use Prim.Native.Nat.{_-_}
 use borrow.Author.Needs.{needs}
 use lib.ListN.{length}

@@ -1,4 +1,4 @@
--- `block_lines::has_end` meets its contract: as long as no byte has hit, the line ends where it ends from the first place on. Assumes nothing.
+-- `block_lines::has_end` meets its contract: as long as no byte has hit, the line ends where it ends from the first place on.
 use Prim.Native.Nat.{_+_, _-_, _≤_}
 use native.Mathlib.Omega.{arith}
 use mathlib.Core.Path.{_≡_, sym}

@@ -1,4 +1,4 @@
--- `block_lines::in_line` meets its contract: by the two tests. Assumes nothing.
+-- `block_lines::in_line` meets its contract: by the two tests.
 use borrow.Author.Tests.{ne-eqb}
 use Rattle.base_sequences.proofs.Booleans.{or-none}
 use Rattle.base_readers.specs.Texts.{oneOf}

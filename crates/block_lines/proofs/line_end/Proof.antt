@@ -1,4 +1,4 @@
--- `block_lines::line_end` meets its contract: the text of a line, CR and LF. Assumes nothing.
+-- `block_lines::line_end` meets its contract: the text of a line, CR and LF.
 use Rattle.block_lines.proofs.Lines.{line-not, line-cut, line-whole, line-room}
 use borrow.Author.Needs.{needs}
 use Rattle.block_lines.proofs.line_end.Statement.{statement}

@@ -1,4 +1,4 @@
--- `block_lines::line_text` meets its contract: from each place of the loop the line ends where it ends from the first. Assumes nothing.
+-- `block_lines::line_text` meets its contract: from each place of the loop the line ends where it ends from the first.
 use Prim.Native.Nat.{_-_}
 use native.Mathlib.Omega.{arith}
 use borrow.Author.Needs.{needs}

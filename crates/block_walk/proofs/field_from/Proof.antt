@@ -1,4 +1,4 @@
--- `block_walk::field_from` meets its contract: it is a step. Assumes nothing.
+-- `block_walk::field_from` meets its contract: it is a step.
 use borrow.Author.Needs.{needs}
 use Rattle.block_walk.proofs.field_from.Statement.{statement}
 use Rattle.block_walk.proofs.field_from.Tie as tie

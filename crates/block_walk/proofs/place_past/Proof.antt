@@ -1,4 +1,4 @@
--- `block_walk::place_past` meets its contract: by the two cases of a step. Assumes nothing.
+-- `block_walk::place_past` meets its contract: by the two cases of a step.
 use borrow.Author.Needs.{needs}
 use mathlib.Core.Path.{sym, ap, _∙_}
 use Rattle.block_walk_rules.specs.Steps.{pastOf}

@@ -1,4 +1,4 @@
--- `blockreport::put_fields` meets its contract: at each turn what is left of the block answers as the whole. Assumes nothing.
+-- `blockreport::put_fields` meets its contract: at each turn what is left of the block answers as the whole.
 use native.Mathlib.Omega.{arith}
 use borrow.Author.Needs.{needs}
 use Prim.Native.Nat.{_-_}

@@ -1,4 +1,4 @@
--- `blockreport::reports` meets its contract: one law for each way out. Assumes nothing.
+-- `blockreport::reports` meets its contract: one law for each way out.
 use borrow.Author.Needs.{needs}
 use mathlib.Core.Path.{sym, _∙_}
 use Rattle.blockreport.proofs.Ends.{answer-1, within-limit, answer-5, answer-listed, answer-plain}

@@ -1,4 +1,4 @@
--- `blockreport::reports_by` meets its contract: one law for each way out. Assumes nothing.
+-- `blockreport::reports_by` meets its contract: one law for each way out.
 use borrow.Author.Needs.{needs}
 use Rattle.blockreport.proofs.Ends.{answer-2-4, answer-6, answer-copied, answer-written}
 use Rattle.blockreport.proofs.reports_by.Statement.{statement}

@@ -1,4 +1,4 @@
--- `blockreport::reports_spelled` meets its contract: the list is spelled into a buffer that holds the longest. Assumes nothing.
+-- `blockreport::reports_spelled` meets its contract: the list is spelled into a buffer that holds the longest.
 use borrow.Author.Needs.{needs}
 use mathlib.Core.Path.{sym}
 use lib.Seq.{length-take-le}

@@ -1,4 +1,4 @@
--- `blockreport_fields::put_body` meets its contract: a report that fits the buffer of this function is copied from it. Assumes nothing.
+-- `blockreport_fields::put_body` meets its contract: a report that fits the buffer of this function is copied from it.
 use borrow.Author.Needs.{needs}
 use mathlib.Core.Path.{sym}
 use lib.ListN.{replicate}

@@ -1,4 +1,4 @@
--- `blockreport_fields::put_field` meets its contract: a field of this name is told, any other adds nothing. Assumes nothing.
+-- `blockreport_fields::put_field` meets its contract: a field of this name is told, any other adds nothing.
 use borrow.Author.Needs.{needs}
 use native.Mathlib.Omega.{arith}
 use Rattle.blockreport_fields.proofs.Bodies.{this-name, other-name}

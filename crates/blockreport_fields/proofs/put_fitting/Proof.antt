@@ -1,4 +1,4 @@
--- `blockreport_fields::put_fitting` meets its contract: with too little room nothing is written, and else as much as there is room for is all of it. Assumes nothing.
+-- `blockreport_fields::put_fitting` meets its contract: with too little room nothing is written, and else as much as there is room for is all of it.
 use borrow.Author.Needs.{needs}
 use Rattle.blockreport_fields.proofs.Bodies.{copy-out, copy-put}
 use Rattle.blockreport_fields.proofs.put_fitting.Statement.{statement}

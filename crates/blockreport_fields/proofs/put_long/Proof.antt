@@ -1,4 +1,4 @@
--- `blockreport_fields::put_long` meets its contract: the line by what was measured, and then the report. Assumes nothing.
+-- `blockreport_fields::put_long` meets its contract: the line by what was measured, and then the report.
 use borrow.Author.Needs.{needs}
 use Rattle.blockreport_fields.proofs.Bodies.{long-size, long-put}
 use Rattle.blockreport_fields.proofs.put_long.Statement.{statement}

@@ -1,4 +1,4 @@
--- `blockreport_fields::put_report` meets its contract: with no room left nothing is written, and else the rest of the buffer is lent. Assumes nothing.
+-- `blockreport_fields::put_report` meets its contract: with no room left nothing is written, and else the rest of the buffer is lent.
 use borrow.Author.Needs.{needs}
 use Rattle.blockreport_fields.proofs.Bodies.{report-out, report-put}
 use Rattle.blockreport_fields.proofs.put_report.Statement.{statement}

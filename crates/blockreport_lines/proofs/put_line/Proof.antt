@@ -1,4 +1,4 @@
--- `blockreport_lines::put_line` meets its contract: the columns one after another are the whole line. Assumes nothing.
+-- `blockreport_lines::put_line` meets its contract: the columns one after another are the whole line.
 use borrow.Author.Needs.{needs}
 use Rattle.blockreport_lines.proofs.Lines.{line-put}
 use Rattle.blockreport_lines.proofs.put_line.Statement.{statement}

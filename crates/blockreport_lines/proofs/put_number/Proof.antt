@@ -1,4 +1,4 @@
--- `blockreport_lines::put_number` meets its contract: the tab, and then the digits. Assumes nothing.
+-- `blockreport_lines::put_number` meets its contract: the tab, and then the digits.
 use borrow.Author.Needs.{needs}
 use Rattle.blockreport_lines.proofs.Lines.{number-put}
 use Rattle.blockreport_lines.proofs.put_number.Statement.{statement}

@@ -1,4 +1,4 @@
--- `blockreport_lines::put_whose` meets its contract: each arm writes the word of its case. Assumes nothing.
+-- `blockreport_lines::put_whose` meets its contract: each arm writes the word of its case.
 use borrow.Author.Needs.{needs}
 use Rattle.blockreport_lines.proofs.Lines.{ours-put, others-put, unreadable-put}
 use Rattle.blockreport_lines.proofs.put_whose.Statement.{statement}

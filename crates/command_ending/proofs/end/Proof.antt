@@ -1,4 +1,4 @@
--- The line is a part of its buffer, since that was tested. Assumes nothing.
+-- The line is a part of its buffer, since that was tested.
 use native.Mathlib.Omega.{arith}
 use mathlib.Core.Path.{sym}
 use lib.Seq.{length-take-le}

@@ -1,4 +1,4 @@
--- Each way out is a case of the definition. Assumes nothing.
+-- Each way out is a case of the definition.
 use native.Mathlib.Omega.{arith}
 use mathlib.Core.Path.{sym}
 use lib.Seq.{length-take-le}

@@ -1,4 +1,4 @@
--- A path of no bytes is refused first, and each turn leaves a call less. Assumes nothing.
+-- A path of no bytes is refused first, and each turn leaves a call less.
 use native.Mathlib.Omega.{arith}
 use mathlib.Core.Path.{refl}
 use borrow.Author.Needs.{needs}

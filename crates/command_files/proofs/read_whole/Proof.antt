@@ -1,4 +1,4 @@
--- The bytes read so far fit the buffer, and each turn leaves a call less. Assumes nothing.
+-- The bytes read so far fit the buffer, and each turn leaves a call less.
 use Prim.Native.Nat.{_≤_, _-_}
 use native.Mathlib.Omega.{arith}
 use mathlib.Core.Path.{_≡_, refl, sym}

@@ -1,4 +1,4 @@
--- The bytes written so far are a part of the text, each turn leaves a call less, and a text of no bytes takes no turn. Assumes nothing.
+-- The bytes written so far are a part of the text, each turn leaves a call less, and a text of no bytes takes no turn.
 use Prim.Native.Nat.{_≤_, _-_}
 use native.Mathlib.Omega.{arith}
 use mathlib.Core.Path.{_≡_, refl}

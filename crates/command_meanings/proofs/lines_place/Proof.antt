@@ -1,4 +1,4 @@
--- `command_meanings::lines_place` meets its contract: each test in turn is a case of the definition. Assumes nothing.
+-- `command_meanings::lines_place` meets its contract: each test in turn is a case of the definition.
 use Rattle.command_meanings.proofs.Meanings.{lines-zero, lines-first, lines-last}
 use Rattle.command_meanings.proofs.lines_place.Statement.{statement}
 use Rattle.command_meanings.proofs.lines_place.Tie as tie

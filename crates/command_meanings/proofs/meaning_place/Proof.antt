@@ -1,4 +1,4 @@
--- `command_meanings::meaning_place` meets its contract: each test in turn is one of the definition. Assumes nothing.
+-- `command_meanings::meaning_place` meets its contract: each test in turn is one of the definition.
 use Rattle.command_meanings.proofs.Meanings.{place-one, place-two, place-three, place-four, place-five, place-six}
 use Rattle.command_meanings.proofs.meaning_place.Statement.{statement}
 use Rattle.command_meanings.proofs.meaning_place.Tie as tie

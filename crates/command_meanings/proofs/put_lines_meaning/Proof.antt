@@ -1,4 +1,4 @@
--- `command_meanings::put_lines_meaning` meets its contract: the words are a phrase of the text. Assumes nothing.
+-- `command_meanings::put_lines_meaning` meets its contract: the words are a phrase of the text.
 use Rattle.command_meanings.proofs.Meanings.{lines-put}
 use borrow.Author.Needs.{needs}
 use Rattle.command_meanings.proofs.put_lines_meaning.Statement.{statement}

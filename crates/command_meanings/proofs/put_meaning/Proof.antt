@@ -1,4 +1,4 @@
--- `command_meanings::put_meaning` meets its contract: the phrase of the number, and for 5 what is wrong with the entry. Assumes nothing.
+-- `command_meanings::put_meaning` meets its contract: the phrase of the number, and for 5 what is wrong with the entry.
 use Rattle.command_meanings.proofs.Meanings.{meaning-fault, meaning-put}
 use borrow.Author.Needs.{needs}
 use Rattle.command_meanings.proofs.put_meaning.Statement.{statement}

@@ -1,4 +1,4 @@
--- `command_message::put_closing` meets its contract: the digits, and then LF. Assumes nothing.
+-- `command_message::put_closing` meets its contract: the digits, and then LF.
 use Rattle.command_message.proofs.Putting.{closing-put}
 use borrow.Author.Needs.{needs}
 use Rattle.command_message.proofs.put_closing.Statement.{statement}

@@ -1,4 +1,4 @@
--- `command_message::put_ending` meets its contract: a refusal has its line, and any other ending its phrase. Assumes nothing.
+-- `command_message::put_ending` meets its contract: a refusal has its line, and any other ending its phrase.
 use Rattle.command_rules.specs.Messages.{endingLine}
 use Rattle.command_message.proofs.Putting.{ending-put, told-put}
 use borrow.Author.Needs.{needs}

@@ -1,4 +1,4 @@
--- `command_message::put_lines_refusal` meets its contract: its parts one after another. Assumes nothing.
+-- `command_message::put_lines_refusal` meets its contract: its parts one after another.
 use Rattle.command_message.proofs.Putting.{lines-put}
 use borrow.Author.Needs.{needs}
 use Rattle.command_message.proofs.put_lines_refusal.Statement.{statement}

@@ -1,4 +1,4 @@
--- `command_message::put_refusal` meets its contract: its parts one after another. Assumes nothing.
+-- `command_message::put_refusal` meets its contract: its parts one after another.
 use Rattle.command_message.proofs.Putting.{refusal-put}
 use borrow.Author.Needs.{needs}
 use Rattle.command_message.proofs.put_refusal.Statement.{statement}

@@ -1,4 +1,4 @@
--- `command_message::put_told` meets its contract: its text is the one of the definition. Assumes nothing.
+-- `command_message::put_told` meets its contract: its text is the one of the definition.
 use borrow.Author.Needs.{needs}
 use Rattle.command_message.proofs.put_told.Statement.{statement}
 use Rattle.command_message.proofs.put_told.Tie as tie

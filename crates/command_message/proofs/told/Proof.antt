@@ -1,4 +1,4 @@
--- `command_message::told` meets its contract: the number of each ending. Assumes nothing.
+-- `command_message::told` meets its contract: the number of each ending.
 use mathlib.Core.Path.{sym, ap}
 use Rattle.command_message.specs.Internal.{toldBy}
 use borrow.Author.Needs.{needs}

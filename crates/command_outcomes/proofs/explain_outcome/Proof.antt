@@ -1,4 +1,4 @@
--- `command_outcomes::explain_outcome` meets its contract: the outcome of the whole text. Assumes nothing.
+-- `command_outcomes::explain_outcome` meets its contract: the outcome of the whole text.
 use Rattle.command_outcomes.proofs.Words.{explain-so}
 use borrow.Author.Needs.{needs}
 use Rattle.command_outcomes.proofs.explain_outcome.Statement.{statement}

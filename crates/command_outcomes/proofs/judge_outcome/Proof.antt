@@ -1,4 +1,4 @@
--- `command_outcomes::judge_outcome` meets its contract: the outcome of the whole judgement. Assumes nothing.
+-- `command_outcomes::judge_outcome` meets its contract: the outcome of the whole judgement.
 use Rattle.command_outcomes.proofs.Words.{judge-so}
 use borrow.Author.Needs.{needs}
 use Rattle.command_outcomes.proofs.judge_outcome.Statement.{statement}

@@ -1,4 +1,4 @@
--- `command_outcomes::refusal_of` meets its contract: bad verdicts have a line of their own. Assumes nothing.
+-- `command_outcomes::refusal_of` meets its contract: bad verdicts have a line of their own.
 use Rattle.command_outcomes.proofs.Words.{refused-verdicts, refused-so}
 use Rattle.command_outcomes.proofs.refusal_of.Statement.{statement}
 use Rattle.command_outcomes.proofs.refusal_of.Tie as tie

@@ -1,4 +1,4 @@
--- `command_outcomes::strip_outcome` meets its contract: the outcome of the bytes that are kept. Assumes nothing.
+-- `command_outcomes::strip_outcome` meets its contract: the outcome of the bytes that are kept.
 use borrow.Author.Needs.{needs}
 use Rattle.command_outcomes.proofs.strip_outcome.Statement.{statement}
 use Rattle.command_outcomes.proofs.strip_outcome.Tie as tie

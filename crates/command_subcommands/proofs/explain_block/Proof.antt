@@ -1,4 +1,4 @@
--- `command_subcommands::explain_block` meets its contract: the lines that were reported are those that are said in words. Assumes nothing.
+-- `command_subcommands::explain_block` meets its contract: the lines that were reported are those that are said in words.
 use Prim.Native.Nat.{ℕ}
 use Rattle.blockreport_rules.specs.Reports.{reports}
 use Rattle.command_subcommands.proofs.Rooms.{explain-so}

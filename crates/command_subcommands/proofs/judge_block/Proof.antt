@@ -1,4 +1,4 @@
--- `command_subcommands::judge_block` meets its contract: the verdicts are those that the digits say. Assumes nothing.
+-- `command_subcommands::judge_block` meets its contract: the verdicts are those that the digits say.
 use mathlib.Core.Path.{ap, _∙_}
 use mathlib.Core.List.{List}
 use Prim.Native.Nat.{ℕ}

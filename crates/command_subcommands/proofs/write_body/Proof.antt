@@ -1,4 +1,4 @@
--- The outcome of what the call answered. Assumes nothing.
+-- The outcome of what the call answered.
 use Prim.Native.Nat.{ℕ}
 use Rattle.write_rules.specs.Compose.{compose}
 use Rattle.write_rules.specs.Answers.{answerOf}

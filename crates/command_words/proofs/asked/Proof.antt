@@ -1,4 +1,4 @@
--- `command_words::asked` meets its contract: each test in turn is a case of the definition. Assumes nothing.
+-- `command_words::asked` meets its contract: each test in turn is a case of the definition.
 use Rattle.command_rules.proofs.Lines.{asked-strip, asked-report, asked-explain, asked-judge, asked-neither, asked-other, asked-write, asked-unlisted}
 use borrow.Author.Needs.{needs}
 use Rattle.command_words.proofs.asked.Statement.{statement}

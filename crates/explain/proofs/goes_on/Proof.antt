@@ -1,4 +1,4 @@
--- `explain::goes_on` meets its contract: each arm is a case of the definition. Assumes nothing.
+-- `explain::goes_on` meets its contract: each arm is a case of the definition.
 use mathlib.Core.Path.{sym, ap}
 use Rattle.explain_rules.specs.Explained.{goesOn}
 use Rattle.explain.proofs.Lines.{own-line}

@@ -1,4 +1,4 @@
--- `explain::is_behind` meets its contract: no line has its end, and any other by what it is. Assumes nothing.
+-- `explain::is_behind` meets its contract: no line has its end, and any other by what it is.
 use Rattle.explain.proofs.Lines.{line-to, behind-none, behind-by}
 use borrow.Author.Needs.{needs}
 use Rattle.explain.proofs.is_behind.Statement.{statement}

@@ -1,4 +1,4 @@
--- `explain::next_line` meets its contract: a place behind, and at most the end. Assumes nothing.
+-- `explain::next_line` meets its contract: a place behind, and at most the end.
 use native.Mathlib.Omega.{arith}
 use borrow.Author.Needs.{needs}
 use Rattle.explain.proofs.next_line.Statement.{statement}

@@ -1,4 +1,4 @@
--- `explain::put_end` meets its contract: what a line that stands behind says has no end before it. Assumes nothing.
+-- `explain::put_end` meets its contract: what a line that stands behind says has no end before it.
 use Rattle.explain.proofs.Lines.{end-none, end-here}
 use borrow.Author.Needs.{needs}
 use Rattle.explain.proofs.put_end.Statement.{statement}

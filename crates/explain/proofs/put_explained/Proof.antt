@@ -1,4 +1,4 @@
--- `explain::put_explained` meets its contract: without lines the one sentence, else the words of all lines. Assumes nothing.
+-- `explain::put_explained` meets its contract: without lines the one sentence, else the words of all lines.
 use Rattle.explain.proofs.Lines.{none-put, lines-put}
 use borrow.Author.Needs.{needs}
 use Rattle.explain.proofs.put_explained.Statement.{statement}

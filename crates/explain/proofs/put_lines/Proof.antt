@@ -1,4 +1,4 @@
--- `explain::put_lines` meets its contract: at each turn the words of the lines that are left, stored from there on, give what those of all lines give. Assumes nothing.
+-- `explain::put_lines` meets its contract: at each turn the words of the lines that are left, stored from there on, give what those of all lines give.
 use Prim.Native.Nat.{_-_}
 use native.Mathlib.Omega.{arith}
 use lib.ListN.{length, drop}

@@ -1,4 +1,4 @@
--- `explain_columns::behind` meets its contract: what stands behind the tab that was found, or nothing. Assumes nothing.
+-- `explain_columns::behind` meets its contract: what stands behind the tab that was found, or nothing.
 use Rattle.explain_columns.proofs.Columns.{behind-is, behind-none}
 use borrow.Author.Needs.{needs}
 use Rattle.explain_columns.proofs.behind.Statement.{statement}

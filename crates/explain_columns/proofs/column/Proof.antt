@@ -1,4 +1,4 @@
--- `explain_columns::column` meets its contract: what stands before the tab that was found. Assumes nothing.
+-- `explain_columns::column` meets its contract: what stands before the tab that was found.
 use Rattle.explain_columns.proofs.Columns.{column-long, column-is}
 use borrow.Author.Needs.{needs}
 use Rattle.explain_columns.proofs.column.Statement.{statement}

@@ -1,4 +1,4 @@
--- `explain_columns::kind_of` meets its contract: one byte is looked up, and else each test in turn is a case of the definition. Assumes nothing.
+-- `explain_columns::kind_of` meets its contract: one byte is looked up, and else each test in turn is a case of the definition.
 use Rattle.explain_columns.proofs.Columns.{is-letter, is-field, is-identifier, is-no-result, is-other}
 use borrow.Author.Needs.{needs}
 use Rattle.explain_columns.proofs.kind_of.Statement.{statement}

@@ -1,4 +1,4 @@
--- `explain_columns::kind_of_letter` meets its contract: each letter is a case of the definition. Assumes nothing.
+-- `explain_columns::kind_of_letter` meets its contract: each letter is a case of the definition.
 use Prim.Native.Nat.{ℕ}
 use mathlib.Core.Path.{sym, ap}
 use mathlib.Core.List.{[], _∷_}

@@ -1,4 +1,4 @@
--- `explain_columns::kind_of_line` meets its contract: the kind of its first column. Assumes nothing.
+-- `explain_columns::kind_of_line` meets its contract: the kind of its first column.
 use Rattle.explain_columns.proofs.Columns.{kind-line}
 use borrow.Author.Needs.{needs}
 use Rattle.explain_columns.proofs.kind_of_line.Statement.{statement}

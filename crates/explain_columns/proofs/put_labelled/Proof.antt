@@ -1,4 +1,4 @@
--- `explain_columns::put_labelled` meets its contract: the label, and then the column. Assumes nothing.
+-- `explain_columns::put_labelled` meets its contract: the label, and then the column.
 use Rattle.explain_columns.proofs.Columns.{labelled-put}
 use borrow.Author.Needs.{needs}
 use Rattle.explain_columns.proofs.put_labelled.Statement.{statement}

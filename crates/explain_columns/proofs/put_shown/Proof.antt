@@ -1,4 +1,4 @@
--- `explain_columns::put_shown` meets its contract: at each turn what is left to store, stored from there on, gives what the whole text gives. Assumes nothing.
+-- `explain_columns::put_shown` meets its contract: at each turn what is left to store, stored from there on, gives what the whole text gives.
 use Prim.Native.Nat.{_-_}
 use native.Mathlib.Omega.{arith}
 use mathlib.Core.List.{map}

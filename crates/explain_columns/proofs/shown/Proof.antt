@@ -1,4 +1,4 @@
--- `explain_columns::shown` meets its contract: each arm is a case of the definition. Assumes nothing.
+-- `explain_columns::shown` meets its contract: each arm is a case of the definition.
 use Rattle.explain_columns.proofs.Columns.{shown-visible, shown-other}
 use borrow.Author.Needs.{needs}
 use Rattle.explain_columns.proofs.shown.Statement.{statement}

@@ -1,4 +1,4 @@
--- `explain_columns::until` meets its contract: as long as another byte stands there the run goes on. Assumes nothing.
+-- `explain_columns::until` meets its contract: as long as another byte stands there the run goes on.
 use Prim.Native.Nat.{_-_}
 use native.Mathlib.Omega.{arith}
 use borrow.Author.Needs.{needs}

@@ -1,4 +1,4 @@
--- `explain_fields::answer_place` meets its contract: each test in turn is a case of the definition. Assumes nothing.
+-- `explain_fields::answer_place` meets its contract: each test in turn is a case of the definition.
 use Rattle.explain_fields.proofs.Fields.{answer-newer, answer-unread, answer-read}
 use borrow.Author.Needs.{needs}
 use Rattle.explain_fields.proofs.answer_place.Statement.{statement}

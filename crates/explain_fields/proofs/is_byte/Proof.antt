@@ -1,4 +1,4 @@
--- `explain_fields::is_byte` meets its contract: each test in turn is a case of the definition. Assumes nothing.
+-- `explain_fields::is_byte` meets its contract: each test in turn is a case of the definition.
 use Rattle.explain_fields.proofs.Fields.{byte-long, byte-other, byte-same}
 use borrow.Author.Needs.{needs}
 use Rattle.explain_fields.proofs.is_byte.Statement.{statement}

@@ -1,4 +1,4 @@
--- `explain_fields::put_answer` meets its contract: the words are a phrase of the text. Assumes nothing.
+-- `explain_fields::put_answer` meets its contract: the words are a phrase of the text.
 use Rattle.explain_fields.proofs.Fields.{answer-put}
 use borrow.Author.Needs.{needs}
 use Rattle.explain_fields.proofs.put_answer.Statement.{statement}

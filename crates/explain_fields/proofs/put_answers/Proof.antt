@@ -1,4 +1,4 @@
--- `explain_fields::put_answers` meets its contract: the answer, and then the count. Assumes nothing.
+-- `explain_fields::put_answers` meets its contract: the answer, and then the count.
 use Rattle.explain_fields.proofs.Fields.{answers-put}
 use borrow.Author.Needs.{needs}
 use Rattle.explain_fields.proofs.put_answers.Statement.{statement}

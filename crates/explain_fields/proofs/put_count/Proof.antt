@@ -1,4 +1,4 @@
--- `explain_fields::put_count` meets its contract: nothing for 0, and else the count and what is behind it. Assumes nothing.
+-- `explain_fields::put_count` meets its contract: nothing for 0, and else the count and what is behind it.
 use Rattle.explain_fields.proofs.Fields.{count-none, count-some}
 use borrow.Author.Needs.{needs}
 use Rattle.explain_fields.proofs.put_count.Statement.{statement}

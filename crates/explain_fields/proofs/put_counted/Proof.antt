@@ -1,4 +1,4 @@
--- `explain_fields::put_counted` meets its contract: what divides it, and then the count. Assumes nothing.
+-- `explain_fields::put_counted` meets its contract: what divides it, and then the count.
 use Rattle.explain_fields.proofs.Fields.{counted-put}
 use borrow.Author.Needs.{needs}
 use Rattle.explain_fields.proofs.put_counted.Statement.{statement}

@@ -1,4 +1,4 @@
--- `explain_fields::put_field` meets its contract: the parts one after another are the whole line. Assumes nothing.
+-- `explain_fields::put_field` meets its contract: the parts one after another are the whole line.
 use Rattle.explain_fields.proofs.Fields.{field-put}
 use borrow.Author.Needs.{needs}
 use Rattle.explain_fields.proofs.put_field.Statement.{statement}

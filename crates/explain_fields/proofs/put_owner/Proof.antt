@@ -1,4 +1,4 @@
--- `explain_fields::put_owner` meets its contract: whose it is, and then the answer and the count. Assumes nothing.
+-- `explain_fields::put_owner` meets its contract: whose it is, and then the answer and the count.
 use Rattle.explain_fields.proofs.Fields.{owner-put}
 use borrow.Author.Needs.{needs}
 use Rattle.explain_fields.proofs.put_owner.Statement.{statement}

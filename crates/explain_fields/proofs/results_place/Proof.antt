@@ -1,4 +1,4 @@
--- `explain_fields::results_place` meets its contract: one result, or another count. Assumes nothing.
+-- `explain_fields::results_place` meets its contract: one result, or another count.
 use Rattle.explain_fields.proofs.Fields.{results-one, results-many}
 use borrow.Author.Needs.{needs}
 use Rattle.explain_fields.proofs.results_place.Statement.{statement}

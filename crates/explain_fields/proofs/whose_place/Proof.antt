@@ -1,4 +1,4 @@
--- `explain_fields::whose_place` meets its contract: each test in turn is a case of the definition. Assumes nothing.
+-- `explain_fields::whose_place` meets its contract: each test in turn is a case of the definition.
 use Rattle.explain_fields.proofs.Fields.{whose-own, whose-other, whose-unread}
 use borrow.Author.Needs.{needs}
 use Rattle.explain_fields.proofs.whose_place.Statement.{statement}

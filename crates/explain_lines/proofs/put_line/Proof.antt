@@ -1,4 +1,4 @@
--- `explain_lines::put_line` meets its contract: the words of its kind, of what stands behind its first column. Assumes nothing.
+-- `explain_lines::put_line` meets its contract: the words of its kind, of what stands behind its first column.
 use Rattle.explain_lines.proofs.Words.{line-put}
 use borrow.Author.Needs.{needs}
 use Rattle.explain_lines.proofs.put_line.Statement.{statement}

@@ -1,4 +1,4 @@
--- `explain_lines::put_method` meets its contract: the parts one after another are the whole line. Assumes nothing.
+-- `explain_lines::put_method` meets its contract: the parts one after another are the whole line.
 use Rattle.explain_lines.proofs.Words.{method-put}
 use borrow.Author.Needs.{needs}
 use Rattle.explain_lines.proofs.put_method.Statement.{statement}

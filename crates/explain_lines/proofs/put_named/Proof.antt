@@ -1,4 +1,4 @@
--- `explain_lines::put_named` meets its contract: the label, and then the column. Assumes nothing.
+-- `explain_lines::put_named` meets its contract: the label, and then the column.
 use Rattle.explain_lines.proofs.Words.{named-put}
 use borrow.Author.Needs.{needs}
 use Rattle.explain_lines.proofs.put_named.Statement.{statement}

@@ -1,4 +1,4 @@
--- `explain_lines::put_property` meets its contract: the parts one after another are the whole. Assumes nothing.
+-- `explain_lines::put_property` meets its contract: the parts one after another are the whole.
 use Rattle.explain_lines.proofs.Words.{property-put}
 use borrow.Author.Needs.{needs}
 use Rattle.explain_lines.proofs.put_property.Statement.{statement}

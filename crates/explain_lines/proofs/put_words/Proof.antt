@@ -1,4 +1,4 @@
--- `explain_lines::put_words` meets its contract: each arm writes the words of its kind. Assumes nothing.
+-- `explain_lines::put_words` meets its contract: each arm writes the words of its kind.
 use native.Mathlib.Omega.{arith}
 use Rattle.explain_lines.proofs.Words.{field-words, identifier-words, version-words, no-result-words, method-words, reason-words, property-words, other-words}
 use borrow.Author.Needs.{needs}

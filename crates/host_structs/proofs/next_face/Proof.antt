@@ -1,4 +1,4 @@
--- `host_structs::next_face` meets its contract: by the two cases of a step. Assumes nothing.
+-- `host_structs::next_face` meets its contract: by the two cases of a step.
 use mathlib.Core.Path.{sym, ap}
 use borrow.Author.Needs.{needs}
 use Rattle.host_structs.specs.Faces.{nextFace}

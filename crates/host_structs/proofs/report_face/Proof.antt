@@ -1,4 +1,4 @@
--- `host_structs::report_face` meets its contract: field by field. Assumes nothing.
+-- `host_structs::report_face` meets its contract: field by field.
 use mathlib.Core.Path.{refl}
 use Rattle.host_structs.proofs.report_face.Statement.{statement}
 use Rattle.host_structs.proofs.report_face.Tie as tie

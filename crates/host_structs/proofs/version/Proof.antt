@@ -1,4 +1,4 @@
--- `host_structs::version` meets its contract: the two numbers are the same. Assumes nothing.
+-- `host_structs::version` meets its contract: the two numbers are the same.
 use mathlib.Core.Path.{refl}
 use Rattle.host_structs.proofs.version.Statement.{statement}
 use Rattle.host_structs.proofs.version.Tie as tie

@@ -1,4 +1,4 @@
--- `host_whose::owner_of` meets its contract: the list as it stands, or spelled. Assumes nothing.
+-- `host_whose::owner_of` meets its contract: the list as it stands, or spelled.
 use borrow.Author.Needs.{needs}
 use Rattle.host_whose.proofs.Owners.{owner-plain}
 use Rattle.host_whose.proofs.owner_of.Statement.{statement}

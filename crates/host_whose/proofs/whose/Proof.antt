@@ -1,4 +1,4 @@
--- `host_whose::whose` meets its contract: one law for each way out. Assumes nothing.
+-- `host_whose::whose` meets its contract: one law for each way out.
 use mathlib.Core.Path.{sym, _∙_}
 use borrow.Author.Needs.{needs}
 use Rattle.host_whose.proofs.Owners.{good-zero, answer-1, answer-5, answer-0}

@@ -1,4 +1,4 @@
--- `host_whose_struct::owner_code` meets its contract: by the three cases of an owner. Assumes nothing.
+-- `host_whose_struct::owner_code` meets its contract: by the three cases of an owner.
 use mathlib.Core.Path.{sym, ap}
 use borrow.Author.Needs.{needs}
 use Rattle.host_whose_struct.specs.Whose.{ownerCode}

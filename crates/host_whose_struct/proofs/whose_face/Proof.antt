@@ -1,4 +1,4 @@
--- `host_whose_struct::whose_face` meets its contract: by the owner's code. Assumes nothing.
+-- `host_whose_struct::whose_face` meets its contract: by the owner's code.
 use borrow.Author.Needs.{needs}
 use Rattle.host_whose_struct.proofs.whose_face.Statement.{statement}
 use Rattle.host_whose_struct.proofs.whose_face.Tie as tie

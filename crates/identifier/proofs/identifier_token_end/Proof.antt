@@ -1,4 +1,4 @@
--- `identifier::identifier_token_end` meets its contract: a token ends it where no byte from 128 up follows. Assumes nothing.
+-- `identifier::identifier_token_end` meets its contract: a token ends it where no byte from 128 up follows.
 use borrow.Author.Needs.{needs}
 use Rattle.identifier.proofs.Tokens.{token-plain, token-past}
 use Rattle.identifier.proofs.identifier_token_end.Statement.{statement}

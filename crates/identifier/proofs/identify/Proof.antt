@@ -1,4 +1,4 @@
--- `identifier::identify` meets its contract: each way through the code is a case of the definition. Assumes nothing.
+-- `identifier::identify` meets its contract: each way through the code is a case of the definition.
 use Rattle.identifier.proofs.Identifiers.{identify-quoted, identify-token}
 use borrow.Author.Needs.{needs}
 use Rattle.identifier.proofs.identify.Statement.{statement}

@@ -1,4 +1,4 @@
--- `identifier::in_identifier` meets its contract: each test is one of the definition. Assumes nothing.
+-- `identifier::in_identifier` meets its contract: each test is one of the definition.
 use native.Mathlib.Omega.{arith}
 use Rattle.identifier.proofs.Tokens.{byte-high, byte-low}
 use borrow.Author.Needs.{needs}

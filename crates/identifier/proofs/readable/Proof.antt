@@ -1,4 +1,4 @@
--- `identifier::readable` meets its contract: each test is one of the definition. Assumes nothing.
+-- `identifier::readable` meets its contract: each test is one of the definition.
 use Rattle.identifier.proofs.Identifiers.{readable-none, readable-yes, readable-no}
 use borrow.Author.Needs.{needs}
 use Rattle.identifier.proofs.readable.Statement.{statement}

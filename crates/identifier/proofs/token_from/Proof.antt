@@ -1,4 +1,4 @@
--- `identifier::token_from` meets its contract: from each place of the loop the token ends where it ends from the first. Assumes nothing.
+-- `identifier::token_from` meets its contract: from each place of the loop the token ends where it ends from the first.
 use Prim.Native.Nat.{_-_}
 use native.Mathlib.Omega.{arith}
 use borrow.Author.Needs.{needs}

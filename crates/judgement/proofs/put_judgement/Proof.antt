@@ -1,4 +1,4 @@
--- `judgement::put_judgement` meets its contract: the two lines one after another. Assumes nothing.
+-- `judgement::put_judgement` meets its contract: the two lines one after another.
 use Rattle.judgement.proofs.Words.{judgement-put}
 use borrow.Author.Needs.{needs}
 use Rattle.judgement.proofs.put_judgement.Statement.{statement}

@@ -1,4 +1,4 @@
--- `judgement::read_verdicts` meets its contract: at each turn one digit more is a verdict. Assumes nothing.
+-- `judgement::read_verdicts` meets its contract: at each turn one digit more is a verdict.
 use Prim.Native.Nat.{_-_}
 use native.Mathlib.Omega.{arith}
 use mathlib.Core.Path.{_≡_, refl}

@@ -1,4 +1,4 @@
--- `judgement::verdict` meets its contract: each test is one of the definition. Assumes nothing.
+-- `judgement::verdict` meets its contract: each test is one of the definition.
 use Rattle.judgement.proofs.Words.{verdict-below, verdict-above, verdict-digit}
 use Rattle.judgement.proofs.verdict.Statement.{statement}
 use Rattle.judgement.proofs.verdict.Tie as tie

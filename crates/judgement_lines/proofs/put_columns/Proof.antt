@@ -1,4 +1,4 @@
--- `judgement_lines::put_columns` meets its contract: the two parts and the end of the line are the whole line. Assumes nothing.
+-- `judgement_lines::put_columns` meets its contract: the two parts and the end of the line are the whole line.
 use Rattle.judgement_lines.proofs.Columns.{columns-put}
 use borrow.Author.Needs.{needs}
 use Rattle.judgement_lines.proofs.put_columns.Statement.{statement}

@@ -1,4 +1,4 @@
--- `judgement_lines::put_letter` meets its contract: the letter is a phrase of the text. Assumes nothing.
+-- `judgement_lines::put_letter` meets its contract: the letter is a phrase of the text.
 use Rattle.judgement_lines.proofs.Columns.{letter-put}
 use borrow.Author.Needs.{needs}
 use Rattle.judgement_lines.proofs.put_letter.Statement.{statement}

@@ -1,4 +1,4 @@
--- `judgement_lines::put_number` meets its contract: the tab, and then the digits. Assumes nothing.
+-- `judgement_lines::put_number` meets its contract: the tab, and then the digits.
 use Rattle.judgement_lines.proofs.Columns.{number-put}
 use borrow.Author.Needs.{needs}
 use Rattle.judgement_lines.proofs.put_number.Statement.{statement}

@@ -1,4 +1,4 @@
--- `judgement_lines::put_oldest` meets its contract: there is one where the status is pass. Assumes nothing.
+-- `judgement_lines::put_oldest` meets its contract: there is one where the status is pass.
 use Rattle.judgement_lines.proofs.Columns.{oldest-some, oldest-none}
 use borrow.Author.Needs.{needs}
 use Rattle.judgement_lines.proofs.put_oldest.Statement.{statement}

@@ -1,4 +1,4 @@
--- `judgement_lines::put_status` meets its contract: the word is a phrase of the text. Assumes nothing.
+-- `judgement_lines::put_status` meets its contract: the word is a phrase of the text.
 use Rattle.judgement_lines.proofs.Columns.{status-put}
 use borrow.Author.Needs.{needs}
 use Rattle.judgement_lines.proofs.put_status.Statement.{statement}

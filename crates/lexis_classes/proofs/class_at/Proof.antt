@@ -1,4 +1,4 @@
--- `lexis_classes::class_at` meets its contract by those of its two calls. Assumes nothing.
+-- `lexis_classes::class_at` meets its contract by those of its two calls.
 use Rattle.lexis_classes.proofs.Items.{class-there}
 use borrow.Author.Needs.{needs}
 use Rattle.lexis_classes.proofs.class_at.Statement.{statement}

@@ -1,4 +1,4 @@
--- `lexis_classes::fold_at` meets its contract: each test is one of the definition. Assumes nothing.
+-- `lexis_classes::fold_at` meets its contract: each test is one of the definition.
 use Rattle.lexis_classes.proofs.Items.{fold-no-return, fold-no-feed, fold-is}
 use borrow.Author.Needs.{needs}
 use Rattle.lexis_classes.proofs.fold_at.Statement.{statement}

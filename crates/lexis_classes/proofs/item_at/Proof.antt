@@ -1,4 +1,4 @@
--- `lexis_classes::item_at` meets its contract: each test is one of the definition. Assumes nothing.
+-- `lexis_classes::item_at` meets its contract: each test is one of the definition.
 use Rattle.lexis_classes.proofs.Items.{item-byte, item-pair, item-fold, item-none}
 use borrow.Author.Needs.{needs}
 use Rattle.lexis_classes.proofs.item_at.Statement.{statement}

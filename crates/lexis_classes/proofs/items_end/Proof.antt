@@ -1,4 +1,4 @@
--- `lexis_classes::items_end` meets its contract: from each place of the loop the items end where they end from the first. Assumes nothing.
+-- `lexis_classes::items_end` meets its contract: from each place of the loop the items end where they end from the first.
 use Prim.Native.Nat.{_-_}
 use borrow.Author.Needs.{needs}
 use lib.ListN.{length}

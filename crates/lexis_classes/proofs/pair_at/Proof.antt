@@ -1,4 +1,4 @@
--- `lexis_classes::pair_at` meets its contract: each test is one of the definition. Assumes nothing.
+-- `lexis_classes::pair_at` meets its contract: each test is one of the definition.
 use Rattle.lexis_classes.proofs.Items.{pair-never, pair-not, pair-is}
 use borrow.Author.Needs.{needs}
 use Rattle.lexis_classes.proofs.pair_at.Statement.{statement}

@@ -1,5 +1,5 @@
 -- The comment reader and the reader of what a comment holds meet their contracts. They call each other: a call for the comment has twice
--- the depth that is left for its measure, a call for what it holds one more. Assumes nothing.
+-- the depth that is left for its measure, a call for what it holds one more.
 use Prim.Native.Nat.{_+_, _-_}
 use native.Mathlib.Omega.{arith}
 use borrow.Author.Needs.{needs}

@@ -1,4 +1,4 @@
--- `lexis_comments::comment_end` meets its contract by that of the reader from a fresh cursor. Assumes nothing.
+-- `lexis_comments::comment_end` meets its contract by that of the reader from a fresh cursor.
 use Rattle.lexis_comments.proofs.Loops.{fresh-comment}
 use borrow.Author.Needs.{needs}
 use Rattle.lexis_comments.proofs.comment_end.Statement.{statement}

@@ -1,4 +1,4 @@
--- `lexis_digits::counted_from` meets its contract: leading zeros, but the last of zeros alone. Assumes nothing.
+-- `lexis_digits::counted_from` meets its contract: leading zeros, but the last of zeros alone.
 use Rattle.lexis_laws.proofs.Numbers.{counted-first, counted-none, counted-last}
 use borrow.Author.Needs.{needs}
 use Rattle.lexis_digits.proofs.counted_from.Statement.{statement}

@@ -1,4 +1,4 @@
--- `lexis_digits::digit` meets its contract: a digit is 48 at least. Assumes nothing.
+-- `lexis_digits::digit` meets its contract: a digit is 48 at least.
 use Rattle.lexis_laws.proofs.Numbers.{digit-low}
 use borrow.Author.Needs.{needs}
 use Rattle.lexis_digits.proofs.digit.Statement.{statement}

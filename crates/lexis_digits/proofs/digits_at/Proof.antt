@@ -1,4 +1,4 @@
--- `lexis_digits::digits_at` meets its contract: more than six digits that count make a large number, and others are summed up. Assumes nothing.
+-- `lexis_digits::digits_at` meets its contract: more than six digits that count make a large number, and others are summed up.
 use Rattle.lexis_laws.proofs.VersionNumbers.{counted-order, counted-run, digits-large, digits-exact}
 use native.Mathlib.Omega.{arith}
 use borrow.Author.Needs.{needs}

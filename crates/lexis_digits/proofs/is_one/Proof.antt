@@ -1,4 +1,4 @@
--- `lexis_digits::is_one` meets its contract, case by case. Assumes nothing.
+-- `lexis_digits::is_one` meets its contract, case by case.
 use mathlib.Core.Path.{sym, ap}
 use Rattle.lexis_rules.specs.Numbers.{isOne}
 use borrow.Author.Needs.{needs}

@@ -1,5 +1,5 @@
 -- `lexis_digits::sum` meets its contract: what is summed up so far, with the digits that are left, is the number of the run, which six digits
--- can't make larger than 999,999. Assumes nothing.
+-- can't make larger than 999,999.
 use Prim.Native.Nat.{_-_}
 use native.Mathlib.Omega.{arith}
 use borrow.Author.Needs.{needs}

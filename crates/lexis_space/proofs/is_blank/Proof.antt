@@ -1,4 +1,4 @@
--- `lexis_space::is_blank` meets its contract: each test is one of the definition. Assumes nothing.
+-- `lexis_space::is_blank` meets its contract: each test is one of the definition.
 use Rattle.lexis_laws.proofs.Bytes.{blank-space, blank-tab}
 use Rattle.lexis_space.proofs.is_blank.Statement.{statement}
 use Rattle.lexis_space.proofs.is_blank.Tie as tie

@@ -1,4 +1,4 @@
--- `lexis_space::opens_at` meets its contract: it is what the call answers. Assumes nothing.
+-- `lexis_space::opens_at` meets its contract: it is what the call answers.
 use borrow.Author.Needs.{needs}
 use Rattle.lexis_space.proofs.opens_at.Statement.{statement}
 use Rattle.lexis_space.proofs.opens_at.Tie as tie

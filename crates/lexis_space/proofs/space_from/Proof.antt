@@ -1,4 +1,4 @@
--- `lexis_space::space_from` meets its contract: from each place of the loop the space ends where it ends from the first. Assumes nothing.
+-- `lexis_space::space_from` meets its contract: from each place of the loop the space ends where it ends from the first.
 use Prim.Native.Nat.{_-_}
 use borrow.Author.Needs.{needs}
 use lib.ListN.{length}

@@ -1,4 +1,4 @@
--- `lexis_space::too_long` meets its contract: the constant of the code is the definition's. Assumes nothing.
+-- `lexis_space::too_long` meets its contract: the constant of the code is the definition's.
 use mathlib.Core.Path.{refl}
 use Rattle.lexis_space.proofs.too_long.Statement.{statement}
 use Rattle.lexis_space.proofs.too_long.Tie as tie

@@ -1,4 +1,4 @@
--- `lexis_table::digit` meets its contract: the binary digit of each class is computed. Assumes nothing.
+-- `lexis_table::digit` meets its contract: the binary digit of each class is computed.
 use borrow.Author.Needs.{needs}
 use Rattle.lexis_table.proofs.digit.Statement.{statement}
 use Rattle.lexis_table.proofs.digit.Tie as tie

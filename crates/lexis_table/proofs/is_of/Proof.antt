@@ -1,4 +1,4 @@
--- `lexis_table::is_of` meets its contract: one binary digit of the byte's entry is looked at. Assumes nothing.
+-- `lexis_table::is_of` meets its contract: one binary digit of the byte's entry is looked at.
 use borrow.Author.Needs.{needs}
 use Rattle.lexis_table.proofs.Entries.{digit-asked}
 use Rattle.lexis_table.proofs.is_of.Statement.{statement}

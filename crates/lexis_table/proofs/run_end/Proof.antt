@@ -1,5 +1,5 @@
 -- `lexis_table::run_end` meets its contract: the entries say of each byte what the class's rule says, and from each place of the loop the run ends
--- where it ends from the first. Assumes nothing.
+-- where it ends from the first.
 use Prim.Native.Nat.{_-_}
 use native.Mathlib.Omega.{arith}
 use borrow.Author.Needs.{needs}

@@ -1,4 +1,4 @@
--- `lexis_tokens::keyword_end` meets its contract: the run, and its last byte. Assumes nothing.
+-- `lexis_tokens::keyword_end` meets its contract: the run, and its last byte.
 use Rattle.lexis_tokens.proofs.Keywords.{keyword-empty, keyword-hyphen, keyword-there}
 use borrow.Author.Needs.{needs}
 use Rattle.lexis_tokens.proofs.keyword_end.Statement.{statement}

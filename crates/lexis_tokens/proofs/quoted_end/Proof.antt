@@ -1,4 +1,4 @@
--- `lexis_tokens::quoted_end` meets its contract: a quote, the items, and a quote. Assumes nothing.
+-- `lexis_tokens::quoted_end` meets its contract: a quote, the items, and a quote.
 use Rattle.base_readers.proofs.Loops.{there-fits, opens-not, closes, closes-not}
 use borrow.Author.Needs.{needs}
 use Rattle.lexis_tokens.proofs.quoted_end.Statement.{statement}

@@ -1,4 +1,4 @@
--- `lexis_tokens::value_at` meets its contract: each way through the code is a case of the definition. Assumes nothing.
+-- `lexis_tokens::value_at` meets its contract: each way through the code is a case of the definition.
 use Rattle.lexis_laws.proofs.Values.{value-unclosed, value-quoted, value-none, value-token}
 use borrow.Author.Needs.{needs}
 use Rattle.lexis_tokens.proofs.value_at.Statement.{statement}

@@ -1,4 +1,4 @@
--- `orbendash::orbendash_judge` meets its contract: the answer is that of `arc::judge`, field by field. Assumes nothing.
+-- `orbendash::orbendash_judge` meets its contract: the answer is that of `arc::judge`, field by field.
 use Rattle.host_structs.proofs.JudgeReturned.{judge-faced}
 use borrow.Author.Needs.{needs}
 use Rattle.orbendash.proofs.orbendash_judge.Statement.{statement}

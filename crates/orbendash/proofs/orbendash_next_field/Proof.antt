@@ -1,4 +1,4 @@
--- `orbendash::orbendash_next_field` meets its contract: the step of `block_walk::field_from`, put into the struct for hosts. Assumes nothing.
+-- `orbendash::orbendash_next_field` meets its contract: the step of `block_walk::field_from`, put into the struct for hosts.
 use mathlib.Core.Path.{ap, _∙_}
 use borrow.Author.Needs.{needs}
 use Rattle.host_structs.specs.Faces.{nextFace}

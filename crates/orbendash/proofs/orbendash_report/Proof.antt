@@ -1,4 +1,4 @@
--- `orbendash::orbendash_report` meets its contract: the answer is that of `report::report`, field by field. Assumes nothing.
+-- `orbendash::orbendash_report` meets its contract: the answer is that of `report::report`, field by field.
 use Rattle.host_structs.proofs.Returned.{report-faced}
 use borrow.Author.Needs.{needs}
 use Rattle.orbendash.proofs.orbendash_report.Statement.{statement}

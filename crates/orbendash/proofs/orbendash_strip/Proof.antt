@@ -1,4 +1,4 @@
--- `orbendash::orbendash_strip` meets its contract: the answer is that of `strip::strip`, field by field. Assumes nothing.
+-- `orbendash::orbendash_strip` meets its contract: the answer is that of `strip::strip`, field by field.
 use Rattle.host_structs.proofs.Returned.{strip-faced}
 use borrow.Author.Needs.{needs}
 use Rattle.orbendash.proofs.orbendash_strip.Statement.{statement}

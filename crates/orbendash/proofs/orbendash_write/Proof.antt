@@ -1,4 +1,4 @@
--- `orbendash::orbendash_write` meets its contract: the answer is that of `write::write`, field by field. Assumes nothing.
+-- `orbendash::orbendash_write` meets its contract: the answer is that of `write::write`, field by field.
 use Rattle.host_structs.proofs.Returned.{write-faced}
 use borrow.Author.Needs.{needs}
 use Rattle.orbendash.proofs.orbendash_write.Statement.{statement}

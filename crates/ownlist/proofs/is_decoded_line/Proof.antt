@@ -1,4 +1,4 @@
--- `ownlist::is_decoded_line` meets its contract: the spelling is compared, or is longer than that of any entry. Assumes nothing.
+-- `ownlist::is_decoded_line` meets its contract: the spelling is compared, or is longer than that of any entry.
 use native.Mathlib.Omega.{arith}
 use mathlib.Core.Path.{sym}
 use lib.Seq.{length-take-le}

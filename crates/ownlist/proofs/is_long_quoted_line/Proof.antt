@@ -1,4 +1,4 @@
--- `ownlist::is_long_quoted_line` meets its contract: the text is written into a buffer that holds any with the spelling of an entry. Assumes nothing.
+-- `ownlist::is_long_quoted_line` meets its contract: the text is written into a buffer that holds any with the spelling of an entry.
 use native.Mathlib.Omega.{arith}
 use mathlib.Core.Path.{sym}
 use lib.ListN.{drop}

@@ -1,4 +1,4 @@
--- `ownlist::is_quoted_line` meets its contract: the text is written into a buffer that holds the longest entry, or into a larger one. Assumes nothing.
+-- `ownlist::is_quoted_line` meets its contract: the text is written into a buffer that holds the longest entry, or into a larger one.
 use native.Mathlib.Omega.{arith}
 use mathlib.Core.Path.{sym}
 use lib.ListN.{drop}

@@ -1,4 +1,4 @@
--- `ownlist::is_spelled_line` meets its contract: a text without two hyphens in a row is its own spelling. Assumes nothing.
+-- `ownlist::is_spelled_line` meets its contract: a text without two hyphens in a row is its own spelling.
 use Rattle.ownlist.proofs.Texts.{plain-long, plain-line}
 use borrow.Author.Needs.{needs}
 use Rattle.ownlist.proofs.is_spelled_line.Statement.{statement}

@@ -1,4 +1,4 @@
--- `ownlist::whose` meets its contract: the list is spelled into a buffer that holds the longest, and asked there. Assumes nothing.
+-- `ownlist::whose` meets its contract: the list is spelled into a buffer that holds the longest, and asked there.
 use mathlib.Core.Path.{sym}
 use lib.Seq.{length-take-le}
 use Rattle.ownlist_spelled.proofs.Fits.{fits-room, fits-own}

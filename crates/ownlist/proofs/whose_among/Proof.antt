@@ -1,4 +1,4 @@
--- `ownlist::whose_among` meets its contract: where the identifier is read, the lines are asked for its text. Assumes nothing.
+-- `ownlist::whose_among` meets its contract: where the identifier is read, the lines are asked for its text.
 use Prim.Native.Nat.{_≤_}
 use native.Mathlib.Omega.{arith}
 use mathlib.Core.Path.{_≡_, sym, _∙_}

@@ -1,5 +1,5 @@
 -- `ownlist::whose_spelled` meets its contract: at each turn the lines that are left tell as the whole, and those of the turn tell alone where one of
--- them is asked for. Assumes nothing.
+-- them is asked for.
 use Prim.Native.Nat.{_-_}
 use native.Mathlib.Omega.{arith}
 use mathlib.Core.Path.{refl, sym, _∙_}

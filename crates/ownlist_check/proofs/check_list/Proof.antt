@@ -1,4 +1,4 @@
--- `ownlist_check::check_list` meets its contract: at each turn what is left of the list is answered as the whole. Assumes nothing.
+-- `ownlist_check::check_list` meets its contract: at each turn what is left of the list is answered as the whole.
 use Prim.Native.Nat.{_-_}
 use native.Mathlib.Omega.{arith}
 use mathlib.Core.Path.{sym, _∙_}

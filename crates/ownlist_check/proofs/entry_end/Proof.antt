@@ -1,4 +1,4 @@
--- `ownlist_check::entry_end` meets its contract: the text of an entry, its length, and LF. Assumes nothing.
+-- `ownlist_check::entry_end` meets its contract: the text of an entry, its length, and LF.
 use Rattle.base_readers.proofs.Loops.{there-fits}
 use Rattle.ownlist_check.proofs.EntrySteps.{entry-empty, entry-long, entry-no, entry-yes}
 use borrow.Author.Needs.{needs}

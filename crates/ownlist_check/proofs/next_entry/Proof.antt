@@ -1,4 +1,4 @@
--- `ownlist_check::next_entry` meets its contract: each test of the code is one case of the definition. Assumes nothing.
+-- `ownlist_check::next_entry` meets its contract: each test of the code is one case of the definition.
 use Rattle.ownlist_check.proofs.EntrySteps.{listed-end, listed-bad, listed-many, listed-entry}
 use native.Mathlib.Omega.{arith}
 use borrow.Author.Needs.{needs}

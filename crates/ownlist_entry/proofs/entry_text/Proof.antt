@@ -1,4 +1,4 @@
--- `ownlist_entry::entry_text` meets its contract: a run of visible bytes ends the text where no byte from 128 up follows. Assumes nothing.
+-- `ownlist_entry::entry_text` meets its contract: a run of visible bytes ends the text where no byte from 128 up follows.
 use native.Mathlib.Omega.{arith}
 use borrow.Author.Needs.{needs}
 use Rattle.ownlist_entry.proofs.Sequences.{text-plain, text-past}

@@ -1,4 +1,4 @@
--- `ownlist_entry::text_from` meets its contract: from each place of the loop the text of an entry ends where it ends from the first. Assumes nothing.
+-- `ownlist_entry::text_from` meets its contract: from each place of the loop the text of an entry ends where it ends from the first.
 use Prim.Native.Nat.{_-_}
 use borrow.Author.Needs.{needs}
 use lib.ListN.{length}

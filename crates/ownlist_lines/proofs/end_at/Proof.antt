@@ -1,4 +1,4 @@
--- `ownlist_lines::end_at` meets its contract: the test picks the smaller of the two places. Assumes nothing.
+-- `ownlist_lines::end_at` meets its contract: the test picks the smaller of the two places.
 use native.Mathlib.Omega.{arith}
 use borrow.Author.Needs.{needs}
 use Rattle.ownlist_lines.proofs.end_at.Statement.{statement}

@@ -1,4 +1,4 @@
--- `ownlist_lines::is_line` meets its contract: at each turn what is left of the lines tells as the whole. Assumes nothing.
+-- `ownlist_lines::is_line` meets its contract: at each turn what is left of the lines tells as the whole.
 use Prim.Native.Nat.{_-_}
 use native.Mathlib.Omega.{arith}
 use borrow.Author.Needs.{needs}

@@ -1,4 +1,4 @@
--- `ownlist_lines::is_span` meets its contract: bytes of another length are not alike, and where there are none the text has none. Assumes nothing.
+-- `ownlist_lines::is_span` meets its contract: bytes of another length are not alike, and where there are none the text has none.
 use borrow.Author.Needs.{needs}
 use Rattle.ownlist_lines.proofs.Lines.{span-other, span-empty}
 use Rattle.ownlist_lines.proofs.is_span.Statement.{statement}

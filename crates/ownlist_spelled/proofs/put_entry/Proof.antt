@@ -1,4 +1,4 @@
--- `ownlist_spelled::put_entry` meets its contract: the spelling of an entry fits into the buffer. Assumes nothing.
+-- `ownlist_spelled::put_entry` meets its contract: the spelling of an entry fits into the buffer.
 use native.Mathlib.Omega.{arith}
 use mathlib.Core.Path.{sym}
 use lib.Seq.{length-take-le}

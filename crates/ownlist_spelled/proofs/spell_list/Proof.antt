@@ -1,4 +1,4 @@
--- `ownlist_spelled::spell_list` meets its contract: at each turn what is left of the list is still to be written. Assumes nothing.
+-- `ownlist_spelled::spell_list` meets its contract: at each turn what is left of the list is still to be written.
 use Prim.Native.Nat.{_-_}
 use native.Mathlib.Omega.{arith}
 use mathlib.Core.Path.{_≡_, sym, _∙_}

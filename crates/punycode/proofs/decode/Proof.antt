@@ -1,5 +1,5 @@
 -- `punycode::decode` meets its contract: what the decoder tells is the answer; a label of so few bytes has no more code points than
--- there is room for. Assumes nothing.
+-- there is room for.
 use native.Mathlib.Omega.{arith}
 use Rattle.punycode_decode.specs.declared.Points.the-variants.{Read}
 use Rattle.punycode_decode.specs.Answers.{Tells}

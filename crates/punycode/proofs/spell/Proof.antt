@@ -1,4 +1,4 @@
--- `punycode::spell` meets its contract: what was written into the array is the spelling, and is copied. Assumes nothing.
+-- `punycode::spell` meets its contract: what was written into the array is the spelling, and is copied.
 use native.Mathlib.Omega.{arith}
 use mathlib.Core.Path.{sym}
 use lib.Seq.{length-take-le}

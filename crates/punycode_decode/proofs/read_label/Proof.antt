@@ -1,4 +1,4 @@
--- `punycode_decode::read_label` meets its contract: each answer of the decoder is a case of the definition. Assumes nothing.
+-- `punycode_decode::read_label` meets its contract: each answer of the decoder is a case of the definition.
 use native.Mathlib.Omega.{arith}
 use mathlib.Core.Path.{sym}
 use lib.Seq.{length-take-le}

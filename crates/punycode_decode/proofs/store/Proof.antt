@@ -1,5 +1,5 @@
 -- `punycode_decode::store` meets its contract: at each turn what is left to store, stored from there on, gives what the whole gives; the loop ends
--- where the code points or the room do. Assumes nothing.
+-- where the code points or the room do.
 use Prim.Native.Nat.{_-_}
 use lib.ListN.{length, drop}
 use borrow.Author.Needs.{needs}

@@ -1,5 +1,5 @@
 -- `punycode_hyphens::double_among` meets its contract: as long as no byte has hit, there are two hyphens in a row from the place on where there are
--- from the first. Assumes nothing.
+-- from the first.
 use Prim.Native.Nat.{_-_, _≤_}
 use native.Mathlib.Omega.{arith}
 use borrow.Author.Needs.{needs}

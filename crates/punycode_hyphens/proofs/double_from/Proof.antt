@@ -1,5 +1,5 @@
 -- `punycode_hyphens::double_from` meets its contract: as long as none were found, there are two hyphens in a row from here on where there are from the
--- first place on. Assumes nothing.
+-- first place on.
 use Prim.Native.Nat.{_-_}
 use native.Mathlib.Omega.{arith}
 use borrow.Author.Needs.{needs}

@@ -1,5 +1,5 @@
 -- `punycode_hyphens::has_double_hyphen` meets its contract: as long as none were found, there are two hyphens in a row from here on where there are in
--- the whole. Assumes nothing.
+-- the whole.
 use Prim.Native.Nat.{_-_}
 use native.Mathlib.Omega.{arith}
 use borrow.Author.Needs.{needs}

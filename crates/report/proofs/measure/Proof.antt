@@ -1,4 +1,4 @@
--- `report::measure` meets its contract: one law for each way out. Assumes nothing.
+-- `report::measure` meets its contract: one law for each way out.
 use mathlib.Core.Path.{sym, _∙_}
 use mathlib.Core.List.{[]}
 use Rattle.report.proofs.Ends.{told-room}

@@ -1,4 +1,4 @@
--- `report::put_body` meets its contract: the line of the identifier, and what stands behind it. Assumes nothing.
+-- `report::put_body` meets its contract: the line of the identifier, and what stands behind it.
 use Rattle.report.proofs.Heads.{body-room, body-said}
 use borrow.Author.Needs.{needs}
 use Rattle.report.proofs.put_body.Statement.{statement}

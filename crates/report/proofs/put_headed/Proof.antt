@@ -1,4 +1,4 @@
--- `report::put_headed` meets its contract: header version 1 or none, or another one, by what is found. Assumes nothing.
+-- `report::put_headed` meets its contract: header version 1 or none, or another one, by what is found.
 use mathlib.Core.Path.{_≡_, sym, _∙_}
 use Rattle.identifier.specs.declared.version.Version.the-variants.{Absent, Stated}
 use Rattle.identifier.specs.VersionAnswers.{versionAt}

@@ -1,4 +1,4 @@
--- `report::put_measured` meets its contract: one law for each way out. Assumes nothing.
+-- `report::put_measured` meets its contract: one law for each way out.
 use Rattle.report.proofs.Ends.{answer-9, answer-6, again-fits, answer-copied, answer-written}
 use mathlib.Core.Path.{sym}
 use lib.Seq.{length-take-le}

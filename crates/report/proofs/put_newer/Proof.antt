@@ -1,4 +1,4 @@
--- `report::put_newer` meets its contract: the line of the version, where what has to follow the head follows it. Assumes nothing.
+-- `report::put_newer` meets its contract: the line of the version, where what has to follow the head follows it.
 use Rattle.report.proofs.Heads.{newer-stated, newer-shut}
 use borrow.Author.Needs.{needs}
 use Rattle.report.proofs.put_newer.Statement.{statement}

@@ -1,5 +1,5 @@
 -- `report::put_payload` meets its contract: the word none is the only reading where it is there, and else the list of results is, where
--- it is not empty and the end follows. Assumes nothing.
+-- it is not empty and the end follows.
 use Rattle.report.proofs.Payloads.{payload-word, payload-room, payload-no-results, payload-not-ended, payload-results}
 use borrow.Author.Needs.{needs}
 use Rattle.report.proofs.put_payload.Statement.{statement}

@@ -1,4 +1,4 @@
--- `report::put_version_one` meets its contract: what has to follow the head follows it, or the body is not well-formed. Assumes nothing.
+-- `report::put_version_one` meets its contract: what has to follow the head follows it, or the body is not well-formed.
 use Rattle.report.proofs.Heads.{first-payload, first-shut}
 use borrow.Author.Needs.{needs}
 use Rattle.report.proofs.put_version_one.Statement.{statement}

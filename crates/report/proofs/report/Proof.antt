@@ -1,4 +1,4 @@
--- `report::report` meets its contract: one law for each way out. Assumes nothing.
+-- `report::report` meets its contract: one law for each way out.
 use mathlib.Core.Path.{sym, _∙_}
 use Rattle.report.proofs.Ends.{answer-1, answer-7, told-room}
 use borrow.Author.Needs.{needs}

@@ -1,4 +1,4 @@
--- `report::says_none` meets its contract: the tests that the code makes in turn are those of the grammar. Assumes nothing.
+-- `report::says_none` meets its contract: the tests that the code makes in turn are those of the grammar.
 use Rattle.result_separators.proofs.Marks.{word-inside}
 use Rattle.report.proofs.Payloads.{none-no-mark, none-no-word, none-other-word, none-word}
 use borrow.Author.Needs.{needs}

@@ -1,4 +1,4 @@
--- `report_escape::is_verbatim` meets its contract: the tests are those of the definition. Assumes nothing.
+-- `report_escape::is_verbatim` meets its contract: the tests are those of the definition.
 use borrow.Author.Needs.{needs}
 use Rattle.report_escape.proofs.Escapes.{verbatim-is}
 use Rattle.report_escape.proofs.is_verbatim.Statement.{statement}

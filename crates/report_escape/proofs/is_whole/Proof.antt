@@ -1,5 +1,5 @@
 -- `report_escape::is_whole` meets its contract: the run of bytes that are written as they stand reaches each place of the loop, and from the last
--- of these the end. Assumes nothing.
+-- of these the end.
 use Prim.Native.Nat.{_-_, _≤_}
 use native.Mathlib.Omega.{arith}
 use lib.ListN.{length}

@@ -1,5 +1,5 @@
 -- `report_escape::put_escaped` meets its contract: a text that stands as it is written is stored at once; else at each turn the text that is
--- left, escaped and stored from there on, gives what the whole text gives. Assumes nothing.
+-- left, escaped and stored from there on, gives what the whole text gives.
 use Prim.Native.Nat.{_-_}
 use native.Mathlib.Omega.{arith}
 use lib.ListN.{length}

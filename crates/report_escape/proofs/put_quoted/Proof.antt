@@ -1,5 +1,5 @@
 -- `report_escape::put_quoted` meets its contract: past the end there is no text; else at each turn the text that is left, escaped and stored
--- from there on, gives what the whole text gives, and where no item comes next none is left. Assumes nothing.
+-- from there on, gives what the whole text gives, and where no item comes next none is left.
 use Prim.Native.Nat.{_-_}
 use native.Mathlib.Omega.{arith}
 use lib.ListN.{length, drop}

@@ -1,4 +1,4 @@
--- `report_lines::parts_of` meets its contract: each kind of value has its parts. Assumes nothing.
+-- `report_lines::parts_of` meets its contract: each kind of value has its parts.
 use mathlib.Core.Path.{sym, ap}
 use borrow.Author.Needs.{needs}
 use Rattle.report_lines.specs.Internal.{partsOf}

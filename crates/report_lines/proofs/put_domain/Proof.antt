@@ -1,5 +1,4 @@
 -- `report_lines::put_domain` meets its contract: "@" and then the domain are the whole text, and where no domain can stand it is empty.
--- Assumes nothing.
 use native.Mathlib.Omega.{arith}
 use borrow.Author.Needs.{needs}
 use Rattle.report_lines.proofs.Columns.{unsigned-put, domain-put, domain-none}

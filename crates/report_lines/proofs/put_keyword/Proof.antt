@@ -1,4 +1,4 @@
--- `report_lines::put_keyword` meets its contract: the tab and then the keyword are the whole text. Assumes nothing.
+-- `report_lines::put_keyword` meets its contract: the tab and then the keyword are the whole text.
 use borrow.Author.Needs.{needs}
 use Rattle.report_lines.proofs.Columns.{keyword-put, keyword-full}
 use Rattle.report_lines.proofs.put_keyword.Statement.{statement}

@@ -1,4 +1,4 @@
--- `report_lines::put_none` meets its contract: the five bytes are the whole line. Assumes nothing.
+-- `report_lines::put_none` meets its contract: the five bytes are the whole line.
 use borrow.Author.Needs.{needs}
 use Rattle.report_lines.proofs.Columns.{none-put}
 use Rattle.report_lines.proofs.put_none.Statement.{statement}

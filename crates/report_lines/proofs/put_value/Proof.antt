@@ -1,4 +1,4 @@
--- `report_lines::put_value` meets its contract: the columns one after another are the whole text. Assumes nothing.
+-- `report_lines::put_value` meets its contract: the columns one after another are the whole text.
 use borrow.Author.Needs.{needs}
 use Rattle.report_lines.proofs.Columns.{value-put}
 use Rattle.report_lines.proofs.put_value.Statement.{statement}

@@ -1,4 +1,4 @@
--- `report_lines::put_value_text` meets its contract: each branch writes the text that is meant there. Assumes nothing.
+-- `report_lines::put_value_text` meets its contract: each branch writes the text that is meant there.
 use borrow.Author.Needs.{needs}
 use Rattle.report_lines.proofs.Columns.{quoted-put, bare-put}
 use Rattle.report_lines.proofs.put_value_text.Statement.{statement}

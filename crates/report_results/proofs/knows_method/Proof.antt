@@ -1,4 +1,4 @@
--- `report_results::knows_method` meets its contract: where the version is understood, the table decides. Assumes nothing.
+-- `report_results::knows_method` meets its contract: where the version is understood, the table decides.
 use borrow.Author.Needs.{needs}
 use Rattle.report_results.proofs.Turns.{version-known, version-unknown}
 use Rattle.report_results.proofs.knows_method.Statement.{statement}

@@ -1,4 +1,4 @@
--- `report_results::knows_ptype` meets its contract: where all are known so far, the last one decides. Assumes nothing.
+-- `report_results::knows_ptype` meets its contract: where all are known so far, the last one decides.
 use borrow.Author.Needs.{needs}
 use Rattle.report_results.proofs.Turns.{type-known, type-unknown}
 use Rattle.report_results.proofs.knows_ptype.Statement.{statement}

@@ -1,4 +1,4 @@
--- `report_results::put_details` meets its contract: the reason, and then the properties behind it. Assumes nothing.
+-- `report_results::put_details` meets its contract: the reason, and then the properties behind it.
 use Rattle.report_results.proofs.Turns.{details-put}
 use borrow.Author.Needs.{needs}
 use Rattle.report_results.proofs.put_details.Statement.{statement}

@@ -1,4 +1,4 @@
--- `report_results::put_properties` meets its contract: each turn reads and writes one property more. Assumes nothing.
+-- `report_results::put_properties` meets its contract: each turn reads and writes one property more.
 use native.Mathlib.Omega.{arith}
 use Prim.Native.Nat.{_-_}
 use mathlib.Core.Path.{_≡_, sym, _∙_}

@@ -1,4 +1,4 @@
--- `report_results::put_reason` meets its contract: the reason that the code finds is the one that the parser reads. Assumes nothing.
+-- `report_results::put_reason` meets its contract: the reason that the code finds is the one that the parser reads.
 use mathlib.Core.Path.{sym, _∙_}
 use Rattle.report_results.proofs.Turns.{reason-put, reason-absent}
 use borrow.Author.Needs.{needs}

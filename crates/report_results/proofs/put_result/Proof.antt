@@ -1,4 +1,4 @@
--- `report_results::put_result` meets its contract: the method and what stands behind it are the result. Assumes nothing.
+-- `report_results::put_result` meets its contract: the method and what stands behind it are the result.
 use mathlib.Core.Path.{_≡_, sym, _∙_}
 use borrow.Author.Needs.{needs}
 use Rattle.result_method.specs.declared.Method.the-variants.{Read}

@@ -1,4 +1,4 @@
--- `result_method::method_at` meets its contract: each way through the code is a case of the definition. Assumes nothing.
+-- `result_method::method_at` meets its contract: each way through the code is a case of the definition.
 use Rattle.result_method.proofs.Methods.{method-no-name, method-no-equals, method-no-result, method-read}
 use borrow.Author.Needs.{needs}
 use Rattle.result_method.proofs.method_at.Statement.{statement}

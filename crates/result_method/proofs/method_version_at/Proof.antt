@@ -1,4 +1,4 @@
--- `result_method::method_version_at` meets its contract: each way through the code is a case of the definition. Assumes nothing.
+-- `result_method::method_version_at` meets its contract: each way through the code is a case of the definition.
 use Rattle.result_method.proofs.Methods.{version-no-slash, version-no-digits, version-stated}
 use borrow.Author.Needs.{needs}
 use Rattle.result_method.proofs.method_version_at.Statement.{statement}

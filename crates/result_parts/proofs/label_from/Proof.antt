@@ -1,4 +1,4 @@
--- `result_parts::label_from` meets its contract: each way through the code is a case of the definition. Assumes nothing.
+-- `result_parts::label_from` meets its contract: each way through the code is a case of the definition.
 use Rattle.result_parts.proofs.Labels.{label-no-space, label-no-type, label-no-dot, label-no-name, label-no-equals, label-read}
 use borrow.Author.Needs.{needs}
 use Rattle.result_parts.proofs.label_from.Statement.{statement}

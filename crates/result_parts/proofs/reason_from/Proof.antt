@@ -1,4 +1,4 @@
--- `result_parts::reason_from` meets its contract: each way through the code is a case of the definition. Assumes nothing.
+-- `result_parts::reason_from` meets its contract: each way through the code is a case of the definition.
 use native.Mathlib.Omega.{arith}
 use Rattle.result_parts.proofs.Reasons.{reason-no-space, reason-no-word, reason-no-equals, reason-value}
 use borrow.Author.Needs.{needs}

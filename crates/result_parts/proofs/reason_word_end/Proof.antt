@@ -1,4 +1,4 @@
--- `result_parts::reason_word_end` meets its contract: its first letter, and then a keyword and whether it is the word. Assumes nothing.
+-- `result_parts::reason_word_end` meets its contract: its first letter, and then a keyword and whether it is the word.
 use Rattle.result_separators.proofs.Marks.{word-inside}
 use Rattle.result_parts.proofs.Reasons.{word-starts-not, word-empty, word-there, word-other}
 use borrow.Author.Needs.{needs}

@@ -1,4 +1,4 @@
--- `result_parts::stated_as` meets its contract: each case of a value. Assumes nothing.
+-- `result_parts::stated_as` meets its contract: each case of a value.
 use mathlib.Core.Path.{sym, ap}
 use Rattle.result_parts.specs.Parts.{statedAs}
 use borrow.Author.Needs.{needs}

@@ -1,4 +1,4 @@
--- `result_separators::comes_next` meets its contract: the byte at the place, or the end. Assumes nothing.
+-- `result_separators::comes_next` meets its contract: the byte at the place, or the end.
 use Rattle.result_separators.proofs.Marks.{next-at, next-end}
 use borrow.Author.Needs.{needs}
 use Rattle.result_separators.proofs.comes_next.Statement.{statement}

@@ -1,4 +1,4 @@
--- `result_separators::mark_end` meets its contract: what is found behind the space. Assumes nothing.
+-- `result_separators::mark_end` meets its contract: what is found behind the space.
 use Rattle.result_separators.proofs.Marks.{mark-found}
 use borrow.Author.Needs.{needs}
 use Rattle.result_separators.proofs.mark_end.Statement.{statement}

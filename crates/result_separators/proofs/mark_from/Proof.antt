@@ -1,4 +1,4 @@
--- `result_separators::mark_from` meets its contract: the byte and space, or another byte. Assumes nothing.
+-- `result_separators::mark_from` meets its contract: the byte and space, or another byte.
 use native.Mathlib.Omega.{arith}
 use Rattle.result_separators.proofs.Marks.{mark-fits, mark-there, mark-missing}
 use borrow.Author.Needs.{needs}

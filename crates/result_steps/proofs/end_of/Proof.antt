@@ -1,4 +1,4 @@
--- `result_steps::end_of` meets its contract: each way out is one case of the definition. Assumes nothing.
+-- `result_steps::end_of` meets its contract: each way out is one case of the definition.
 use mathlib.Core.Path.{sym, ap}
 use Rattle.result_steps.specs.Steps.{endOf}
 use Rattle.result_steps.proofs.end_of.Statement.{statement}

@@ -1,4 +1,4 @@
--- `result_steps::is_closed` meets its contract: by the byte that comes next. Assumes nothing.
+-- `result_steps::is_closed` meets its contract: by the byte that comes next.
 use Rattle.result_steps.proofs.Steps.{end-at, end-over}
 use borrow.Author.Needs.{needs}
 use Rattle.result_steps.proofs.is_closed.Statement.{statement}

@@ -1,4 +1,4 @@
--- `result_steps::property_of` meets its contract: each case of what was found. Assumes nothing.
+-- `result_steps::property_of` meets its contract: each case of what was found.
 use mathlib.Core.Path.{sym, ap}
 use Rattle.result_steps.specs.Steps.{propertyOf}
 use borrow.Author.Needs.{needs}

@@ -1,4 +1,4 @@
--- `result_steps::step_from` meets its contract: by what stands before a property value. Assumes nothing.
+-- `result_steps::step_from` meets its contract: by what stands before a property value.
 use mathlib.Core.Path.{sym, _∙_}
 use Rattle.result_steps.proofs.Steps.{step-property, step-end}
 use borrow.Author.Needs.{needs}

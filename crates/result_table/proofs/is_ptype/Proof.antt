@@ -1,4 +1,4 @@
--- `result_table::is_ptype` meets its contract: the constants are tied to the ptypes by computing both. Assumes nothing.
+-- `result_table::is_ptype` meets its contract: the constants are tied to the ptypes by computing both.
 use Prim.Native.Nat.{ℕ}
 use mathlib.Core.Path.{refl, ap, _∙_}
 use lib.Dec.{ltb}

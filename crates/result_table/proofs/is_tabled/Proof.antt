@@ -1,4 +1,4 @@
--- `result_table::is_tabled` meets its contract: the constants are tied to the table by computing both, each once. Assumes nothing.
+-- `result_table::is_tabled` meets its contract: the constants are tied to the table by computing both, each once.
 use mathlib.Core.Path.{_≡_, refl}
 use mathlib.Core.List.{map}
 use borrow.Author.Needs.{needs}

@@ -1,4 +1,4 @@
--- `result_table::number_of` meets its contract: at each turn the rows before it hold other names. Assumes nothing.
+-- `result_table::number_of` meets its contract: at each turn the rows before it hold other names.
 use Prim.Native.Nat.{_-_, _≤_, _<_}
 use mathlib.Core.Path.{sym}
 use mathlib.Core.List.{[]}

@@ -1,4 +1,4 @@
--- `result_values::address_at` meets its contract: each way through the code is a case of the definition. Assumes nothing.
+-- `result_values::address_at` meets its contract: each way through the code is a case of the definition.
 use Rattle.result_values.proofs.ValueCases.{address-empty, address-sound, address-dots}
 use borrow.Author.Needs.{needs}
 use Rattle.result_values.proofs.address_at.Statement.{statement}

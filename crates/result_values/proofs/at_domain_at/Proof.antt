@@ -1,4 +1,4 @@
--- `result_values::at_domain_at` meets its contract: whether a domain ends further on is the one test. Assumes nothing.
+-- `result_values::at_domain_at` meets its contract: whether a domain ends further on is the one test.
 use Rattle.result_values.proofs.ValueCases.{at-domain-none, at-domain-read}
 use borrow.Author.Needs.{needs}
 use Rattle.result_values.proofs.at_domain_at.Statement.{statement}

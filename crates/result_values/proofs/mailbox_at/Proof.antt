@@ -1,4 +1,4 @@
--- `result_values::mailbox_at` meets its contract: whether a domain ends further on is the one test. Assumes nothing.
+-- `result_values::mailbox_at` meets its contract: whether a domain ends further on is the one test.
 use Rattle.result_values.proofs.ValueCases.{mailbox-none, mailbox-read}
 use borrow.Author.Needs.{needs}
 use Rattle.result_values.proofs.mailbox_at.Statement.{statement}

@@ -1,4 +1,4 @@
--- `result_values::quoted_at` meets its contract: each way through the code is a case of the definition. Assumes nothing.
+-- `result_values::quoted_at` meets its contract: each way through the code is a case of the definition.
 use Rattle.result_values.proofs.ValueCases.{sign-there, quoted-none, quoted-mailbox, quoted-read}
 use borrow.Author.Needs.{needs}
 use Rattle.result_values.proofs.quoted_at.Statement.{statement}

@@ -1,4 +1,4 @@
--- `result_values::value_at` meets its contract: each way through the code is a case of the definition. Assumes nothing.
+-- `result_values::value_at` meets its contract: each way through the code is a case of the definition.
 use borrow.Author.Needs.{needs}
 use Rattle.result_values.proofs.ValueCases.{sign-behind, value-address, value-quoted, value-none, value-token}
 use Rattle.result_values.proofs.value_at.Statement.{statement}

@@ -1,5 +1,5 @@
 -- `sample_sums::adler` meets its contract: the sum over the bytes still to come, from the two halves so far, is the whole sum; both halves
--- stay below 65,521. Assumes nothing.
+-- stay below 65,521.
 use Prim.Native.Nat.{_-_, _≤_, _<_}
 use native.Mathlib.Omega.{arith}
 use mathlib.Core.Path.{_≡_, refl}

@@ -1,5 +1,5 @@
 -- `sample_sums::changed` meets its contract: the count so far and the bytes still to count make up the whole; it counts no more bytes than it
--- has passed. Assumes nothing.
+-- has passed.
 use Prim.Native.Nat.{_+_, _-_, _≤_}
 use native.Mathlib.Omega.{arith}
 use native.Mathlib.Nat.{zero-add}

@@ -1,4 +1,4 @@
--- `sample_sums::differs` meets its contract: the test of the code is the one of the definition. Assumes nothing.
+-- `sample_sums::differs` meets its contract: the test of the code is the one of the definition.
 use Rattle.sample_sums.proofs.Sums.{differs-not, differs-so}
 use Rattle.sample_sums.proofs.differs.Statement.{statement}
 use Rattle.sample_sums.proofs.differs.Tie as tie

@@ -1,5 +1,4 @@
 -- `sample_support::digits` meets its contract: at each turn the digits that are left, stored from there on, give what all of them give.
--- Assumes nothing.
 use Prim.Native.Nat.{_-_, _≤_}
 use native.Mathlib.Omega.{arith}
 use lib.ListN.{length, drop}

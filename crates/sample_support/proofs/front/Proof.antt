@@ -1,4 +1,4 @@
--- `sample_support::front` meets its contract by arithmetic in each branch. Assumes nothing.
+-- `sample_support::front` meets its contract by arithmetic in each branch.
 use Rattle.sample_support.proofs.Fills.{front-some, front-all}
 use Rattle.sample_support.proofs.front.Statement.{statement}
 use Rattle.sample_support.proofs.front.Tie as tie

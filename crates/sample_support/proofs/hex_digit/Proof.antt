@@ -1,4 +1,4 @@
--- `sample_support::hex_digit` meets its contract: the test of the code is the one of the definition. Assumes nothing.
+-- `sample_support::hex_digit` meets its contract: the test of the code is the one of the definition.
 use native.Mathlib.Omega.{arith}
 use borrow.Author.Needs.{needs}
 use Rattle.sample_support.proofs.Fills.{digit-low, digit-high}

@@ -1,4 +1,4 @@
--- `sample_support::is_plain` meets its contract: the tests of the code are those of the definition. Assumes nothing.
+-- `sample_support::is_plain` meets its contract: the tests of the code are those of the definition.
 use borrow.Author.Needs.{needs}
 use Rattle.sample_support.proofs.Fills.{percent-other, visible-plain}
 use Rattle.sample_support.proofs.is_plain.Statement.{statement}

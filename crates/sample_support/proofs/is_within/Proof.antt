@@ -1,4 +1,4 @@
--- `sample_support::is_within` meets its contract: the tests of the code are those of the definition. Assumes nothing.
+-- `sample_support::is_within` meets its contract: the tests of the code are those of the definition.
 use Rattle.sample_support.proofs.Fills.{within-before, within-after}
 use Rattle.sample_support.proofs.is_within.Statement.{statement}
 use Rattle.sample_support.proofs.is_within.Tie as tie

@@ -1,5 +1,4 @@
 -- `sample_support::number_of` meets its contract: the number from each place on, behind the one so far, is the whole number cut at the most.
--- Assumes nothing.
 use Prim.Native.Nat.{_-_, _≤_, min}
 use native.Mathlib.Omega.{arith}
 use mathlib.Core.Path.{_≡_, refl}

@@ -1,4 +1,4 @@
--- `sample_support::put` meets its contract: where there is no room nothing is stored. Assumes nothing.
+-- `sample_support::put` meets its contract: where there is no room nothing is stored.
 use borrow.Author.Needs.{needs}
 use Rattle.sample_support.proofs.Fills.{put-past}
 use Rattle.sample_support.proofs.put.Statement.{statement}

@@ -1,4 +1,4 @@
--- `sample_support::put_shown` meets its contract: the three bytes one after the other are the definition's three. Assumes nothing.
+-- `sample_support::put_shown` meets its contract: the three bytes one after the other are the definition's three.
 use borrow.Author.Needs.{needs}
 use Rattle.sample_support.proofs.Fills.{shown-plain, shown-other}
 use Rattle.sample_support.proofs.put_shown.Statement.{statement}

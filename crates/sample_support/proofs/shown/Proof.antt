@@ -1,5 +1,4 @@
 -- `sample_support::shown` meets its contract: at each turn the text that is left, stored from there on, gives what the whole text gives.
--- Assumes nothing.
 use Prim.Native.Nat.{_-_, _≤_}
 use native.Mathlib.Omega.{arith}
 use lib.ListN.{length, drop}

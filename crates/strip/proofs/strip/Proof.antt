@@ -1,4 +1,4 @@
--- `strip::strip` meets its contract: one law for each way out. Assumes nothing.
+-- `strip::strip` meets its contract: one law for each way out.
 use mathlib.Core.Path.{sym, _∙_}
 use Rattle.strip.proofs.Ends.{answer-1, answer-5, answer-listed, answer-plain, plain-room}
 use borrow.Author.Needs.{needs}

@@ -1,4 +1,4 @@
--- `strip::strip_lines` meets its contract: there is room for where all lines end. Assumes nothing.
+-- `strip::strip_lines` meets its contract: there is room for where all lines end.
 use native.Mathlib.Omega.{arith}
 use mathlib.Core.Path.{sym}
 use lib.Seq.{length-take-le}

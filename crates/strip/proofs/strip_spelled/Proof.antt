@@ -1,4 +1,4 @@
--- `strip::strip_spelled` meets its contract: the list is spelled into a buffer that holds the longest. Assumes nothing.
+-- `strip::strip_spelled` meets its contract: the list is spelled into a buffer that holds the longest.
 use mathlib.Core.Path.{sym}
 use lib.Seq.{length-take-le}
 use Rattle.ownlist_spelled.proofs.Fits.{fits-room, fits-own}

@@ -1,5 +1,5 @@
 -- `strip_copy::mark_gone` meets its contract: at each turn what is left of the block answers as the whole, and the places of the fields that went are
--- kept. Assumes nothing.
+-- kept.
 use Prim.Native.Nat.{_-_}
 use native.Mathlib.Omega.{arith}
 use mathlib.Core.Path.{_≡_, sym, _∙_}

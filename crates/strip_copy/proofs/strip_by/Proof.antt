@@ -1,4 +1,4 @@
--- `strip_copy::strip_by` meets its contract: one law for each way out. Assumes nothing.
+-- `strip_copy::strip_by` meets its contract: one law for each way out.
 use native.Mathlib.Omega.{arith}
 use borrow.Author.Needs.{needs}
 use Rattle.strip_copy.proofs.Ends.{answer-2-4, answer-6, answer-0, marked-wrote}

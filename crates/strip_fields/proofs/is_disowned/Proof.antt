@@ -1,4 +1,4 @@
--- `strip_fields::is_disowned` meets its contract: ours and unreadable identifiers are disowned. Assumes nothing.
+-- `strip_fields::is_disowned` meets its contract: ours and unreadable identifiers are disowned.
 use Rattle.strip_fields.proofs.Goes.{whose-disowned}
 use borrow.Author.Needs.{needs}
 use Rattle.strip_fields.proofs.is_disowned.Statement.{statement}

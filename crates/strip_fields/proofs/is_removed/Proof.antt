@@ -1,4 +1,4 @@
--- `strip_fields::is_removed` meets its contract: each test is one of the definition. Assumes nothing.
+-- `strip_fields::is_removed` meets its contract: each test is one of the definition.
 use Rattle.strip_fields.proofs.Goes.{other-name, this-name}
 use borrow.Author.Needs.{needs}
 use Rattle.strip_fields.proofs.is_removed.Statement.{statement}

@@ -1,4 +1,4 @@
--- `strip_fields::put_kept` meets its contract: at each turn what is left of the block answers as the whole. Assumes nothing.
+-- `strip_fields::put_kept` meets its contract: at each turn what is left of the block answers as the whole.
 use native.Mathlib.Omega.{arith}
 use borrow.Author.Needs.{needs}
 use Prim.Native.Nat.{_-_}

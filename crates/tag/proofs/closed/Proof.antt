@@ -1,4 +1,4 @@
--- `tag::closed` meets its contract: the end of the body, or a ";". Assumes nothing.
+-- `tag::closed` meets its contract: the end of the body, or a ";".
 use borrow.Author.Needs.{needs}
 use Rattle.tag.proofs.TagParts.{closed-end, closed-mark, closed-not}
 use Rattle.tag.proofs.closed.Statement.{statement}

@@ -1,4 +1,4 @@
--- `tag::in_tag_name` meets its contract: a keyword's byte but the hyphen, or "_". Assumes nothing.
+-- `tag::in_tag_name` meets its contract: a keyword's byte but the hyphen, or "_".
 use borrow.Author.Tests.{ne-eqb}
 use mathlib.Core.Path.{_∙_}
 use Rattle.base_readers.specs.Texts.{within}

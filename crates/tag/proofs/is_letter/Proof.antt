@@ -1,4 +1,4 @@
--- `tag::is_letter` meets its contract: from 65 up a byte of keywords is a letter. Assumes nothing.
+-- `tag::is_letter` meets its contract: from 65 up a byte of keywords is a letter.
 use borrow.Author.Needs.{needs}
 use Rattle.tag.proofs.TagParts.{letter-low, letter-high}
 use Rattle.tag.proofs.is_letter.Statement.{statement}

@@ -1,4 +1,4 @@
--- `tag::tag_at` meets its contract: each way through the code is a case of the definition. Assumes nothing.
+-- `tag::tag_at` meets its contract: each way through the code is a case of the definition.
 use native.Mathlib.Omega.{arith}
 use mathlib.Core.Path.{refl}
 use borrow.Author.Needs.{needs}

@@ -1,4 +1,4 @@
--- `tag::tag_name_end` meets its contract: a letter and the run that it starts. Assumes nothing.
+-- `tag::tag_name_end` meets its contract: a letter and the run that it starts.
 use borrow.Author.Needs.{needs}
 use Rattle.tag.proofs.TagParts.{name-there, name-missing}
 use Rattle.tag.proofs.tag_name_end.Statement.{statement}

@@ -1,4 +1,4 @@
--- `tag::value_end` meets its contract: from each place of the loop the value ends where it ends from the first. Assumes nothing.
+-- `tag::value_end` meets its contract: from each place of the loop the value ends where it ends from the first.
 use Prim.Native.Nat.{_-_}
 use lib.ListN.{length}
 use borrow.Author.Needs.{needs}

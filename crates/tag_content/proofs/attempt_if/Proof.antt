@@ -1,4 +1,4 @@
--- `tag_content::attempt_if` meets its contract: readable where the test is passed. Assumes nothing.
+-- `tag_content::attempt_if` meets its contract: readable where the test is passed.
 use Rattle.tag_content.proofs.TagLists.{attempt-if}
 use borrow.Author.Needs.{needs}
 use Rattle.tag_content.proofs.attempt_if.Statement.{statement}

@@ -1,4 +1,4 @@
--- `tag_content::cv_after` meets its contract: the value counts where the name is cv. Assumes nothing.
+-- `tag_content::cv_after` meets its contract: the value counts where the name is cv.
 use Rattle.tag_content.proofs.TagLists.{cv-here, cv-before}
 use borrow.Author.Needs.{needs}
 use Rattle.tag_content.proofs.cv_after.Statement.{statement}

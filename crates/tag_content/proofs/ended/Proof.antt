@@ -1,4 +1,4 @@
--- `tag_content::ended` meets its contract: the place is past the body, or not. Assumes nothing.
+-- `tag_content::ended` meets its contract: the place is past the body, or not.
 use Rattle.tag_content.proofs.TagLists.{ended-there, ended-not}
 use Rattle.tag_content.proofs.ended.Statement.{statement}
 use Rattle.tag_content.proofs.ended.Tie as tie

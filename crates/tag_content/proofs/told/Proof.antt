@@ -1,4 +1,4 @@
--- `tag_content::told` meets its contract: the test of a seal, or else of a signature. Assumes nothing.
+-- `tag_content::told` meets its contract: the test of a seal, or else of a signature.
 use Rattle.tag_content.proofs.TagLists.{told-seal, told-signature}
 use borrow.Author.Needs.{needs}
 use Rattle.tag_content.proofs.told.Statement.{statement}

@@ -1,4 +1,4 @@
--- `tag_list::list_at` meets its contract: a body that is too long has no list that is read. Assumes nothing.
+-- `tag_list::list_at` meets its contract: a body that is too long has no list that is read.
 use borrow.Author.Needs.{needs}
 use Rattle.tag_content.proofs.TagLists.{list-long, list-fits}
 use Rattle.tag_list.proofs.list_at.Statement.{statement}

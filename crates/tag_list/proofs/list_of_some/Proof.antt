@@ -1,4 +1,4 @@
--- `tag_list::list_of_some` meets its contract: the table serves unless it is full. Assumes nothing.
+-- `tag_list::list_of_some` meets its contract: the table serves unless it is full.
 use Rattle.tag_list.proofs.Answers.{attempt-read, attempt-unreadable}
 use borrow.Author.Needs.{needs}
 use Rattle.tag_list.proofs.list_of_some.Statement.{statement}

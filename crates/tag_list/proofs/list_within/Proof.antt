@@ -1,4 +1,4 @@
--- `tag_list::list_within` meets its contract: a small table serves unless it is full. Assumes nothing.
+-- `tag_list::list_within` meets its contract: a small table serves unless it is full.
 use Rattle.tag_list.proofs.Answers.{attempt-read, attempt-unreadable}
 use borrow.Author.Needs.{needs}
 use Rattle.tag_list.proofs.list_within.Statement.{statement}

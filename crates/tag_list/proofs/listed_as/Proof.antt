@@ -1,4 +1,4 @@
--- `tag_list::listed_as` meets its contract: each case is one of the definition. Assumes nothing.
+-- `tag_list::listed_as` meets its contract: each case is one of the definition.
 use mathlib.Core.Path.{sym, ap}
 use borrow.Author.Needs.{needs}
 use Rattle.tag_list.specs.Internal.{listedAs}

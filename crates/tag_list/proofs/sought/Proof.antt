@@ -1,4 +1,4 @@
--- `tag_list::sought` meets its contract: i is taken, and any other name is looked for. Assumes nothing.
+-- `tag_list::sought` meets its contract: i is taken, and any other name is looked for.
 use Rattle.tag_content.specs.Tests.{kept}
 use Rattle.tag_list.proofs.Linking.{sought-i, sought-not-i}
 use borrow.Author.Needs.{needs}

@@ -1,4 +1,4 @@
--- `tag_list::try_linked` meets its contract: the tests of what was collected. Assumes nothing.
+-- `tag_list::try_linked` meets its contract: the tests of what was collected.
 use Rattle.tag_content.proofs.TagLists.{in-use-long, collected-fits, collected-told, collected-unsound}
 use borrow.Author.Needs.{needs}
 use Rattle.tag_list.proofs.try_linked.Statement.{statement}

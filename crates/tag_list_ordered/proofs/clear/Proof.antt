@@ -1,4 +1,4 @@
--- `tag_list_ordered::clear` meets its contract: what is passed is zeros. Assumes nothing.
+-- `tag_list_ordered::clear` meets its contract: what is passed is zeros.
 use Prim.Native.Nat.{_-_}
 use native.Mathlib.Omega.{arith}
 use lib.ListN.{length, length-set}

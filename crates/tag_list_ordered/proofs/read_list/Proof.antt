@@ -1,4 +1,4 @@
--- `tag_list_ordered::read_list` meets its contract: the tests of what was collected. Assumes nothing.
+-- `tag_list_ordered::read_list` meets its contract: the tests of what was collected.
 use Rattle.tag_content.proofs.TagLists.{list-long, list-fits, in-use-long, collected-fits, collected-told, collected-unsound, collected-full}
 use borrow.Author.Needs.{needs}
 use Rattle.tag_list_ordered.proofs.read_list.Statement.{statement}

@@ -1,4 +1,4 @@
--- `tag_list_ordered::slot_of` meets its contract: i is taken, and any other name has the slot that was found. Assumes nothing.
+-- `tag_list_ordered::slot_of` meets its contract: i is taken, and any other name has the slot that was found.
 use Rattle.tag_list_ordered.proofs.Slots.{second-i, not-i}
 use borrow.Author.Needs.{needs}
 use Rattle.tag_list_ordered.proofs.slot_of.Statement.{statement}

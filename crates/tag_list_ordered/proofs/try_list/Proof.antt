@@ -1,4 +1,4 @@
--- `tag_list_ordered::try_list` meets its contract: what was read, and a table that is cleared. Assumes nothing.
+-- `tag_list_ordered::try_list` meets its contract: what was read, and a table that is cleared.
 use borrow.Author.Needs.{needs}
 use Rattle.tag_list_ordered.proofs.Clearing.{cleared-long}
 use Rattle.tag_list_ordered.proofs.try_list.Statement.{statement}

@@ -1,4 +1,4 @@
--- `tag_names::bucket` meets its contract: from each byte on the same number is made as from the first. Assumes nothing.
+-- `tag_names::bucket` meets its contract: from each byte on the same number is made as from the first.
 use Prim.Native.Nat.{_-_}
 use native.Mathlib.Omega.{arith}
 use lib.ListN.{length}

@@ -1,4 +1,4 @@
--- `tag_names::compare` meets its contract: from each place of the loop on the name stands to the other as it does from the start. Assumes nothing.
+-- `tag_names::compare` meets its contract: from each place of the loop on the name stands to the other as it does from the start.
 use Prim.Native.Nat.{_-_}
 use native.Mathlib.Omega.{arith}
 use mathlib.Core.Path.{_≡_, refl}

@@ -1,4 +1,4 @@
--- `tag_names::in_name` meets its contract: past the body there is no byte, and in it the name has an end behind its place or at it. Assumes nothing.
+-- `tag_names::in_name` meets its contract: past the body there is no byte, and in it the name has an end behind its place or at it.
 use Rattle.tag_names.proofs.Fronts.{no-byte, front-long, this-byte}
 use borrow.Author.Needs.{needs}
 use Rattle.tag_names.proofs.in_name.Statement.{statement}

@@ -1,4 +1,4 @@
--- `tag_names::is_named` meets its contract: names are the same where the comparison says so. Assumes nothing.
+-- `tag_names::is_named` meets its contract: names are the same where the comparison says so.
 use mathlib.Core.Path.{sym, ap, _∙_}
 use Rattle.tag_names.specs.Names.{isSame}
 use borrow.Author.Needs.{needs}

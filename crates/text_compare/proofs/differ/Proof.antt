@@ -1,4 +1,4 @@
--- `text_compare::differ` meets its contract: what is known after each byte is what is known after one more. Assumes nothing.
+-- `text_compare::differ` meets its contract: what is known after each byte is what is known after one more.
 use Prim.Native.Nat.{_-_, _≤_}
 use native.Mathlib.Omega.{arith}
 use borrow.Author.Needs.{needs}

@@ -1,4 +1,4 @@
--- `text_compare::lower` meets its contract: in each branch the tests of the code say what the definition's test says. Assumes nothing.
+-- `text_compare::lower` meets its contract: in each branch the tests of the code say what the definition's test says.
 use borrow.Author.Tests.{lt-leb, le-leb}
 use borrow.Author.Needs.{needs}
 use Rattle.base_readers.specs.Texts.{within}

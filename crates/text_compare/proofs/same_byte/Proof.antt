@@ -1,4 +1,4 @@
--- `text_compare::same_byte` meets its contract: equal bytes have one lower case. Assumes nothing.
+-- `text_compare::same_byte` meets its contract: equal bytes have one lower case.
 use mathlib.Core.Path.{sym, ap}
 use borrow.Author.Tests.{eq-eqb}
 use borrow.Author.Needs.{needs}

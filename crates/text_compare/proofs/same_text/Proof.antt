@@ -1,5 +1,5 @@
 -- `text_compare::same_text` meets its contract: texts of different lengths are not alike, at each turn the rests are alike if and only if the
--- whole texts are, and the last sixteen bytes hold what is left. Assumes nothing.
+-- whole texts are, and the last sixteen bytes hold what is left.
 use Prim.Native.Nat.{_+_, _-_, _≤_}
 use native.Mathlib.Omega.{arith}
 use mathlib.Core.Path.{_≡_, refl}

@@ -1,5 +1,5 @@
 -- `text_compare::same_word` meets its contract: texts of different lengths are not alike, and at each turn the rests are alike if and only if
--- the whole texts are. Assumes nothing.
+-- the whole texts are.
 use Prim.Native.Nat.{_-_}
 use native.Mathlib.Omega.{arith}
 use mathlib.Core.Path.{_≡_, refl}

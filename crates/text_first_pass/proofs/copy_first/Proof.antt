@@ -1,4 +1,4 @@
--- `text_first_pass::copy_first` meets its contract: one law for each way out. Assumes nothing.
+-- `text_first_pass::copy_first` meets its contract: one law for each way out.
 use Prim.Native.Nat.{ℕ, _≤_}
 use mathlib.Core.Path.{_≡_, sym}
 use mathlib.Core.List.{List}

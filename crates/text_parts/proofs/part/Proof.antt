@@ -1,4 +1,4 @@
--- `text_parts::part` meets its contract: each test clamps as the definition does. Assumes nothing.
+-- `text_parts::part` meets its contract: each test clamps as the definition does.
 use native.Mathlib.Omega.{arith}
 use borrow.Author.Needs.{needs}
 use Rattle.base_sequences.proofs.Spans.{span-none, span-past, span-rest}

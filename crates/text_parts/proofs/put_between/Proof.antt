@@ -1,4 +1,4 @@
--- `text_parts::put_between` meets its contract: at each turn what stands before the parts so far is written. Assumes nothing.
+-- `text_parts::put_between` meets its contract: at each turn what stands before the parts so far is written.
 use Prim.Native.Nat.{_-_, _≤_}
 use native.Mathlib.Omega.{arith}
 use mathlib.Core.Path.{refl}

@@ -1,5 +1,4 @@
 -- `text_quoted::inside` meets its contract: one place further the list has one element less, and past the end there is none to drop.
--- Assumes nothing.
 use lib.ListN.{drop-of-length-le}
 use lib.Seq.{drop-drop}
 use borrow.Author.Needs.{needs}

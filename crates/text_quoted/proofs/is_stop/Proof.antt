@@ -1,4 +1,4 @@
--- `text_quoted::is_stop` meets its contract: a byte that passes all tests is of the class. Assumes nothing.
+-- `text_quoted::is_stop` meets its contract: a byte that passes all tests is of the class.
 use Rattle.text_quoted.proofs.Copied.{unstopped}
 use Rattle.text_quoted.proofs.is_stop.Statement.{statement}
 use Rattle.text_quoted.proofs.is_stop.Tie as tie

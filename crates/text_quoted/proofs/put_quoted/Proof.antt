@@ -1,5 +1,5 @@
 -- `text_quoted::put_quoted` meets its contract: at each turn the text that is left, stored from there on, gives what the whole text gives, and
--- where no item comes next none is left. Assumes nothing.
+-- where no item comes next none is left.
 use Prim.Native.Nat.{_-_, _≤_, _<_}
 use native.Mathlib.Omega.{arith}
 use lib.ListN.{length, drop}

@@ -1,4 +1,4 @@
--- `text_quoted::store` meets its contract: where there is no such place the definition's store changes nothing. Assumes nothing.
+-- `text_quoted::store` meets its contract: where there is no such place the definition's store changes nothing.
 use native.Mathlib.Omega.{arith}
 use mathlib.Core.Path.{sym}
 use lib.Seq.{set-out}

@@ -1,4 +1,4 @@
--- `text_quoted::store_run` meets its contract: where there is no such place the definition's store changes nothing. Assumes nothing.
+-- `text_quoted::store_run` meets its contract: where there is no such place the definition's store changes nothing.
 use native.Mathlib.Omega.{arith}
 use Rattle.text_quoted.proofs.Copied.{put-out}
 use borrow.Author.Needs.{needs}

@@ -1,4 +1,4 @@
--- `text_write::least` meets its contract by arithmetic in each branch. Assumes nothing.
+-- `text_write::least` meets its contract by arithmetic in each branch.
 use native.Mathlib.Omega.{arith}
 use mathlib.Core.Logic.{inl, inr}
 use Rattle.text_write.proofs.least.Statement.{statement}

@@ -1,4 +1,4 @@
--- `text_write::put_byte` meets its contract: each way out has its law in `base_sequences/proofs/Clips.antt`. Assumes nothing.
+-- `text_write::put_byte` meets its contract: each way out has its law in `base_sequences/proofs/Clips.antt`.
 use borrow.Author.Needs.{needs}
 use Rattle.base_sequences.proofs.Clips.{put-none, put-past}
 use Rattle.text_write.proofs.put_byte.Statement.{statement}

@@ -1,5 +1,5 @@
 -- `text_write::put_lower` meets its contract: at each turn what is left to store, stored from there on, gives what the whole text gives; the
--- loop ends where the text or the room does. Assumes nothing.
+-- loop ends where the text or the room does.
 use Prim.Native.Nat.{_+_, _-_, _≤_}
 use native.Mathlib.Omega.{arith}
 use mathlib.Core.List.{map}

@@ -1,4 +1,4 @@
--- `write::next_state` meets its contract: each way out has its law in `States`. Assumes nothing.
+-- `write::next_state` meets its contract: each way out has its law in `States`.
 use Rattle.write.proofs.States.{next-id, next-none, next-first, next-later, next-method, next-reason, next-again, next-property}
 use borrow.Author.Needs.{needs}
 use Rattle.write.proofs.next_state.Statement.{statement}

@@ -1,4 +1,4 @@
--- `write::only` meets its contract: each way out has its law in `States`. Assumes nothing.
+-- `write::only` meets its contract: each way out has its law in `States`.
 use Rattle.write.proofs.States.{only-taken, only-left}
 use Rattle.write.proofs.only.Statement.{statement}
 use Rattle.write.proofs.only.Tie as tie

@@ -1,4 +1,4 @@
--- `write::put_lines` meets its contract: the loop keeps `Lining`, and each way out has its law. Assumes nothing.
+-- `write::put_lines` meets its contract: the loop keeps `Lining`, and each way out has its law.
 use Rattle.write.proofs.Passes.{Lining, lining-start, lining-long, lining-early, lining-done, lining-missing, lining-less, lining-fits, lining-stuck, lining-more}
 use borrow.Author.Needs.{needs}
 use lib.ListN.{length}

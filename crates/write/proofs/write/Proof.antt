@@ -1,4 +1,4 @@
--- `write::write` meets its contract: each way out has its law in `Ends`. Assumes nothing.
+-- `write::write` meets its contract: each way out has its law in `Ends`.
 use Rattle.write.proofs.Ends.{answer-11, answer-1, answer-6, again-fits, answer-copied, answer-written}
 use mathlib.Core.Path.{sym}
 use lib.Seq.{length-take-le}

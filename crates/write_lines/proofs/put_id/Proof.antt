@@ -1,4 +1,4 @@
--- `write_lines::put_id` meets its contract: each way out has its law in `Lines`. Assumes nothing.
+-- `write_lines::put_id` meets its contract: each way out has its law in `Lines`.
 use Rattle.write_lines.proofs.Lines.{id-unlike, id-fits, id-untailed, id-put}
 use borrow.Author.Needs.{needs}
 use Rattle.write_lines.proofs.put_id.Statement.{statement}

@@ -1,4 +1,4 @@
--- `write_lines::put_line` meets its contract: each way out has its law in `Answers`. Assumes nothing.
+-- `write_lines::put_line` meets its contract: each way out has its law in `Answers`.
 use Rattle.write_lines.proofs.Answers.{line-id, line-none, line-method, line-reason, line-property}
 use borrow.Author.Needs.{needs}
 use Rattle.write_lines.proofs.put_line.Statement.{statement}

@@ -1,4 +1,4 @@
--- `write_lines::put_method` meets its contract: each way out has its law in `Methods`. Assumes nothing.
+-- `write_lines::put_method` meets its contract: each way out has its law in `Methods`.
 use Rattle.write_lines.proofs.Methods.{method-unlike, method-fits, method-first, method-inside, method-next, method-second, method-inside-second, method-last, method-unknown, method-put}
 use borrow.Author.Needs.{needs}
 use Rattle.write_lines.proofs.put_method.Statement.{statement}

@@ -1,4 +1,4 @@
--- `write_lines::put_property` meets its contract: each way out has its law in `Properties`. Assumes nothing.
+-- `write_lines::put_property` meets its contract: each way out has its law in `Properties`.
 use Rattle.write_lines.proofs.Properties.{property-unlike, property-fits, property-first, property-inside, property-next, property-second, property-inside-second, property-last, property-unshown, property-shown}
 use borrow.Author.Needs.{needs}
 use Rattle.write_lines.proofs.put_property.Statement.{statement}

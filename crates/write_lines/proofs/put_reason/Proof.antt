@@ -1,4 +1,4 @@
--- `write_lines::put_reason` meets its contract: each way out has its law in `Lines`. Assumes nothing.
+-- `write_lines::put_reason` meets its contract: each way out has its law in `Lines`.
 use Rattle.write_lines.proofs.Lines.{reason-unlike, reason-fits, reason-untailed, reason-put}
 use borrow.Author.Needs.{needs}
 use Rattle.write_lines.proofs.put_reason.Statement.{statement}

@@ -1,4 +1,4 @@
--- `write_lines::put_valued` meets its contract: each way out has its law in `Properties`. Assumes nothing.
+-- `write_lines::put_valued` meets its contract: each way out has its law in `Properties`.
 use Rattle.write_lines.proofs.Properties.{valued-not, valued-fits, valued-one, valued-before, valued-inside, valued-put}
 use borrow.Author.Needs.{needs}
 use Rattle.write_lines.proofs.put_valued.Statement.{statement}

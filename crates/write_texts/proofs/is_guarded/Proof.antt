@@ -1,4 +1,4 @@
--- `write_texts::is_guarded` meets its contract: each way out has its law in `Texts`. Assumes nothing.
+-- `write_texts::is_guarded` meets its contract: each way out has its law in `Texts`.
 use Rattle.write_texts.proofs.Texts.{guard-quote, guard-other}
 use Rattle.write_texts.proofs.is_guarded.Statement.{statement}
 use Rattle.write_texts.proofs.is_guarded.Tie as tie

@@ -1,4 +1,4 @@
--- `write_texts::put_mailbox` meets its contract: each way out has its law in `Values`. Assumes nothing.
+-- `write_texts::put_mailbox` meets its contract: each way out has its law in `Values`.
 use Rattle.write_texts.proofs.Values.{sign-inside, sign-front, mailbox-put}
 use borrow.Author.Needs.{needs}
 use Rattle.write_texts.proofs.put_mailbox.Statement.{statement}

@@ -1,4 +1,4 @@
--- `write_texts::put_text` meets its contract: the loop keeps `Texting`, and each way out has its law. Assumes nothing.
+-- `write_texts::put_text` meets its contract: the loop keeps `Texting`, and each way out has its law.
 use Rattle.write_texts.proofs.Texts.{Texting, texting-start, texting-long, texting-done, texting-more}
 use Rattle.write_columns.proofs.Codes.{text-turn, text-less}
 use borrow.Author.Needs.{needs}

@@ -1,4 +1,4 @@
--- `arc_fields::Instance::is_number` meets its contract: each test is one of the definition. Assumes nothing.
+-- `arc_fields::Instance::is_number` meets its contract: each test is one of the definition.
 use native.Mathlib.Omega.{arith}
 use Rattle.arc_fields.proofs.Instances.{number-low, number-high}
 use Rattle.arc_fields.proofs.Instance.is_number.Statement.{statement}

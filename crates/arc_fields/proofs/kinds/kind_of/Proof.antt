@@ -1,4 +1,4 @@
--- `arc_fields::kinds::kind_of` meets its contract: the names are tried in turn. Assumes nothing.
+-- `arc_fields::kinds::kind_of` meets its contract: the names are tried in turn.
 use borrow.Author.Needs.{needs}
 use Rattle.arc_fields.proofs.Instances.{kind-results, kind-signature, kind-seal, kind-other}
 use Rattle.arc_fields.proofs.kinds.kind_of.Statement.{statement}

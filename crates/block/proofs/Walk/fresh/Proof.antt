@@ -1,4 +1,4 @@
--- `block::Walk::fresh` meets its contract: a walk over a block starts at the front. Assumes nothing.
+-- `block::Walk::fresh` meets its contract: a walk over a block starts at the front.
 use mathlib.Core.Path.{refl}
 use Rattle.block.proofs.Walk.fresh.Statement.{statement}
 use Rattle.block.proofs.Walk.fresh.Tie as tie

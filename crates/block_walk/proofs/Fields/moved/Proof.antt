@@ -1,7 +1,6 @@
 -- `Fields::moved` meets its contract, by a walk of its MIR: a reader is made of the block that the one passed holds, and of another place. A
 -- reader is Copy, so what it owns is had twice: one is kept whole for the exit, the other is what the result owns once the facts of the new
 -- place stand where those of the old one stood.
--- Assumes nothing.
 use mathlib.Core.Path.{refl}
 use Prim.Native.Nat.{ℕ, _<_, _^_}
 use mathlib.Core.List.{[], _∷_}

@@ -1,6 +1,5 @@
 -- `Fields::new` meets its contract, by a walk of its MIR: the reader is made of the block that is passed and 0. A `&[u8]` is Copy, so what the
 -- block owns is had twice, once for the parameter at the exit and once inside the result, beside the facts of its place.
--- Assumes nothing.
 use mathlib.Core.Path.{refl}
 use Prim.Native.Nat.{ℕ}
 use mathlib.Core.List.{List, [], _∷_}

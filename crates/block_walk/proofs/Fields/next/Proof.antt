@@ -1,6 +1,5 @@
 -- `Fields::next` meets its contract, by a walk of its MIR: the reader is taken apart (`Parts`), and `field_from` is called with the block and
 -- the place. Of `field_from` nothing is used but its contract. The lifetime's token, which the call takes, comes back.
--- Assumes nothing.
 use mathlib.Core.Path.{_≡_, refl}
 use mathlib.Core.List.{[], _∷_}
 use lib.Dec.{T as Holds}

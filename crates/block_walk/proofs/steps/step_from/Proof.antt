@@ -1,4 +1,4 @@
--- `block_walk::steps::step_from` meets its contract: what is left of the search at each field is what it was at the first. Assumes nothing.
+-- `block_walk::steps::step_from` meets its contract: what is left of the search at each field is what it was at the first.
 use native.Mathlib.Omega.{arith}
 use borrow.Author.Needs.{needs}
 use Prim.Native.Nat.{_-_}

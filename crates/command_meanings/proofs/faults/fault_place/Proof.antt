@@ -1,4 +1,4 @@
--- `command_meanings::faults::fault_place` meets its contract: each test in turn is a case of the definition. Assumes nothing.
+-- `command_meanings::faults::fault_place` meets its contract: each test in turn is a case of the definition.
 use Rattle.command_meanings.proofs.Meanings.{fault-zero, fault-one, fault-two, fault-three, fault-four}
 use borrow.Author.Needs.{needs}
 use Rattle.command_meanings.proofs.faults.fault_place.Statement.{statement}

@@ -1,4 +1,4 @@
--- `command_meanings::faults::feed_from` meets its contract: the run goes on as long as there is no LF. Assumes nothing.
+-- `command_meanings::faults::feed_from` meets its contract: the run goes on as long as there is no LF.
 use Prim.Native.Nat.{_-_}
 use native.Mathlib.Omega.{arith}
 use lib.ListN.{length}

@@ -1,4 +1,4 @@
--- `command_meanings::faults::feeds_before` meets its contract: those counted and those still to be counted are all of them. Assumes nothing.
+-- `command_meanings::faults::feeds_before` meets its contract: those counted and those still to be counted are all of them.
 use Prim.Native.Nat.{_-_}
 use native.Mathlib.Omega.{arith}
 use lib.ListN.{length}

@@ -1,4 +1,4 @@
--- `command_meanings::faults::put_fault` meets its contract: what is wrong is a phrase of the text. Assumes nothing.
+-- `command_meanings::faults::put_fault` meets its contract: what is wrong is a phrase of the text.
 use Rattle.command_meanings.proofs.Meanings.{fault-put}
 use borrow.Author.Needs.{needs}
 use Rattle.command_meanings.proofs.faults.put_fault.Statement.{statement}

@@ -1,4 +1,4 @@
--- `host_structs::judge::has_oldest_pass` meets its contract: by its one test. Assumes nothing.
+-- `host_structs::judge::has_oldest_pass` meets its contract: by its one test.
 use Prim.Native.Nat.{ℕ}
 use mathlib.Core.Path.{sym, ap}
 use mathlib.Core.Bool.{Bool, cond}

@@ -1,4 +1,4 @@
--- `host_structs::judge::judge_face` meets its contract: field by field, with the code of an oldest-pass. Assumes nothing.
+-- `host_structs::judge::judge_face` meets its contract: field by field, with the code of an oldest-pass.
 use mathlib.Core.Path.{ap}
 use borrow.Author.Needs.{needs}
 use Rattle.host_structs.specs.JudgeFaces.{judgedWith}

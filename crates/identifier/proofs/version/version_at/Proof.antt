@@ -1,4 +1,4 @@
--- `identifier::version::version_at` meets its contract: each way through the code is a case of the definition. Assumes nothing.
+-- `identifier::version::version_at` meets its contract: each way through the code is a case of the definition.
 use Rattle.identifier.proofs.Versions.{version-no-space, version-no-digits, version-stated}
 use borrow.Author.Needs.{needs}
 use Rattle.identifier.proofs.version.version_at.Statement.{statement}

@@ -1,4 +1,4 @@
--- `judgement_lines::words::put_built` meets its contract: the sets, and what the verdicts make of them. Assumes nothing.
+-- `judgement_lines::words::put_built` meets its contract: the sets, and what the verdicts make of them.
 use Rattle.judgement_lines.proofs.WordLaws.{two-put}
 use borrow.Author.Needs.{needs}
 use Rattle.judgement_lines.proofs.words.put_built.Statement.{statement}

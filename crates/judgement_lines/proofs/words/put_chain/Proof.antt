@@ -1,4 +1,4 @@
--- `judgement_lines::words::put_chain` meets its contract: the front is a phrase of the text, and each test is a case of the definition. Assumes nothing.
+-- `judgement_lines::words::put_chain` meets its contract: the front is a phrase of the text, and each test is a case of the definition.
 use Rattle.judgement_lines.proofs.WordLaws.{chain-none, chain-failed, chain-built}
 use borrow.Author.Needs.{needs}
 use Rattle.judgement_lines.proofs.words.put_chain.Statement.{statement}

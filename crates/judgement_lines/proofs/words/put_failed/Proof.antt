@@ -1,4 +1,4 @@
--- `judgement_lines::words::put_failed` meets its contract: the reason, and the field that it names. Assumes nothing.
+-- `judgement_lines::words::put_failed` meets its contract: the reason, and the field that it names.
 use Rattle.judgement_lines.proofs.WordLaws.{two-put}
 use borrow.Author.Needs.{needs}
 use Rattle.judgement_lines.proofs.words.put_failed.Statement.{statement}

@@ -1,4 +1,4 @@
--- `judgement_lines::words::put_field` meets its contract: a reason names a field or none. Assumes nothing.
+-- `judgement_lines::words::put_field` meets its contract: a reason names a field or none.
 use Rattle.judgement_lines.proofs.WordLaws.{field-put}
 use borrow.Author.Needs.{needs}
 use Rattle.judgement_lines.proofs.words.put_field.Statement.{statement}

@@ -1,4 +1,4 @@
--- `judgement_lines::words::put_numbered` meets its contract: a phrase, and behind it the digits of a number other than 0. Assumes nothing.
+-- `judgement_lines::words::put_numbered` meets its contract: a phrase, and behind it the digits of a number other than 0.
 use Rattle.judgement_lines.proofs.WordLaws.{no-number, number-put}
 use borrow.Author.Needs.{needs}
 use Rattle.judgement_lines.proofs.words.put_numbered.Statement.{statement}

@@ -1,4 +1,4 @@
--- `judgement_lines::words::put_pass` meets its contract: one phrase or the other. Assumes nothing.
+-- `judgement_lines::words::put_pass` meets its contract: one phrase or the other.
 use Rattle.judgement_lines.proofs.WordLaws.{pass-put}
 use borrow.Author.Needs.{needs}
 use Rattle.judgement_lines.proofs.words.put_pass.Statement.{statement}

@@ -1,4 +1,4 @@
--- `judgement_lines::words::put_reason` meets its contract: the words are a phrase of the text. Assumes nothing.
+-- `judgement_lines::words::put_reason` meets its contract: the words are a phrase of the text.
 use Rattle.judgement_lines.proofs.WordLaws.{reason-put}
 use borrow.Author.Needs.{needs}
 use Rattle.judgement_lines.proofs.words.put_reason.Statement.{statement}

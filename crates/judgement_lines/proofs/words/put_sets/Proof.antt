@@ -1,4 +1,4 @@
--- `judgement_lines::words::put_sets` meets its contract: the digits, and behind them a phrase of the text. Assumes nothing.
+-- `judgement_lines::words::put_sets` meets its contract: the digits, and behind them a phrase of the text.
 use Rattle.judgement_lines.proofs.WordLaws.{sets-put}
 use borrow.Author.Needs.{needs}
 use Rattle.judgement_lines.proofs.words.put_sets.Statement.{statement}

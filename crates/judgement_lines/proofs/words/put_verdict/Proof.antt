@@ -1,4 +1,4 @@
--- `judgement_lines::words::put_verdict` meets its contract: each test is a case of the definition. Assumes nothing.
+-- `judgement_lines::words::put_verdict` meets its contract: each test is a case of the definition.
 use Rattle.judgement_lines.proofs.WordLaws.{verdict-pass, verdict-fail}
 use borrow.Author.Needs.{needs}
 use Rattle.judgement_lines.proofs.words.put_verdict.Statement.{statement}

@@ -1,4 +1,4 @@
--- `lexis_classes::classes::in_class` meets its contract: the binary digit of the byte is asked for. Assumes nothing.
+-- `lexis_classes::classes::in_class` meets its contract: the binary digit of the byte is asked for.
 use Rattle.lexis_classes.proofs.Bytes.{class-bit}
 use borrow.Author.Needs.{needs}
 use Rattle.lexis_classes.proofs.classes.in_class.Statement.{statement}

@@ -1,4 +1,4 @@
--- `lexis_classes::classes::rows_of` meets its contract: the binary digits of each class are computed. Assumes nothing.
+-- `lexis_classes::classes::rows_of` meets its contract: the binary digits of each class are computed.
 use Rattle.lexis_rules.specs.declared.Class.the-variants.{Blank, Opening, Zero, Digit, Keyword, Token, Quoted, Comment, Escaped, Name, Visible, Delimiter, Tag}
 use Rattle.lexis_classes.proofs.Digits.{told}
 use borrow.Author.Needs.{needs}

@@ -1,4 +1,4 @@
--- `lexis_classes::classes::word` meets its contract: each test is one of the definition. Assumes nothing.
+-- `lexis_classes::classes::word` meets its contract: each test is one of the definition.
 use Rattle.lexis_classes.proofs.Bytes.{word-first, word-second, word-third, word-fourth}
 use Rattle.lexis_classes.proofs.classes.word.Statement.{statement}
 use Rattle.lexis_classes.proofs.classes.word.Tie as tie

@@ -1,4 +1,4 @@
--- `lexis_classes::delimiters::delimited` meets its contract: what comes next at a place. Assumes nothing.
+-- `lexis_classes::delimiters::delimited` meets its contract: what comes next at a place.
 use Rattle.lexis_rules.specs.declared.Class.the-variants.{Delimiter}
 use Rattle.lexis_rules.specs.Bytes.{inClass}
 use Rattle.base_readers.proofs.Texts.{follows-at, follows-end}

@@ -1,4 +1,4 @@
--- `lexis_comments::Cursor::fresh` meets its contract: the constant of the code is the definition's. Assumes nothing.
+-- `lexis_comments::Cursor::fresh` meets its contract: the constant of the code is the definition's.
 use mathlib.Core.Path.{refl}
 use Rattle.lexis_comments.proofs.Cursor.fresh.Statement.{statement}
 use Rattle.lexis_comments.proofs.Cursor.fresh.Tie as tie

@@ -1,4 +1,4 @@
--- `lexis_comments::plain::is_stop` meets its contract: a byte that no test stops stands in a run of plain bytes. Assumes nothing.
+-- `lexis_comments::plain::is_stop` meets its contract: a byte that no test stops stands in a run of plain bytes.
 use borrow.Author.Needs.{needs}
 use Rattle.lexis_laws.proofs.Bytes.{comment-unstopped}
 use Rattle.lexis_comments.proofs.plain.is_stop.Statement.{statement}

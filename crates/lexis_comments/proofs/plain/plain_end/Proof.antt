@@ -1,4 +1,4 @@
--- `lexis_comments::plain::plain_end` meets its contract: where the first byte is not plain the run is empty. Assumes nothing.
+-- `lexis_comments::plain::plain_end` meets its contract: where the first byte is not plain the run is empty.
 use borrow.Author.Needs.{needs}
 use Rattle.base_readers.proofs.Loops.{run-shut}
 use Rattle.lexis_rules.specs.declared.Class.the-variants.{Comment}

@@ -1,4 +1,4 @@
--- `lexis_table::table::entry` meets its contract: each arm gives the entry of its bytes. Assumes nothing.
+-- `lexis_table::table::entry` meets its contract: each arm gives the entry of its bytes.
 use Prim.Native.Nat.{_<_}
 use borrow.Author.Needs.{needs}
 use Rattle.lexis_table.proofs.Arms.{given, given-last}

@@ -1,4 +1,4 @@
--- `ownlist_check::Entries::fresh` meets its contract: a walk over a list starts at the front. Assumes nothing.
+-- `ownlist_check::Entries::fresh` meets its contract: a walk over a list starts at the front.
 use mathlib.Core.Path.{refl}
 use Rattle.ownlist_check.proofs.Entries.fresh.Statement.{statement}
 use Rattle.ownlist_check.proofs.Entries.fresh.Tie as tie

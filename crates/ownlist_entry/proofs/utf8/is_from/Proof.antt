@@ -1,4 +1,4 @@
--- `ownlist_entry::utf8::is_from` meets its contract: each test is one of the definition. Assumes nothing.
+-- `ownlist_entry::utf8::is_from` meets its contract: each test is one of the definition.
 use Rattle.ownlist_entry.proofs.ByteSequences.{from-below, from-above}
 use Rattle.ownlist_entry.proofs.utf8.is_from.Statement.{statement}
 use Rattle.ownlist_entry.proofs.utf8.is_from.Tie as tie

@@ -1,4 +1,4 @@
--- `ownlist_entry::utf8::is_further` meets its contract: each test is one of the definition. Assumes nothing.
+-- `ownlist_entry::utf8::is_further` meets its contract: each test is one of the definition.
 use mathlib.Core.Path.{ap, _∙_}
 use Rattle.base_readers.specs.Texts.{within}
 use Rattle.ownlist_entry.proofs.ByteSequences.{further-none, further-some}

@@ -1,4 +1,4 @@
--- `ownlist_entry::utf8::is_second` meets its contract: one law for each first byte. Assumes nothing.
+-- `ownlist_entry::utf8::is_second` meets its contract: one law for each first byte.
 use Rattle.ownlist_entry.proofs.ByteSequences.{second-1, second-2, second-3, second-4, second-5}
 use borrow.Author.Needs.{needs}
 use Rattle.ownlist_entry.proofs.utf8.is_second.Statement.{statement}

@@ -1,4 +1,4 @@
--- `ownlist_entry::utf8::lead` meets its contract: each test is one of the definition. Assumes nothing.
+-- `ownlist_entry::utf8::lead` meets its contract: each test is one of the definition.
 use Rattle.ownlist_entry.proofs.ByteSequences.{lead-two, lead-three, lead-four, lead-none}
 use borrow.Author.Needs.{needs}
 use Rattle.ownlist_entry.proofs.utf8.lead.Statement.{statement}

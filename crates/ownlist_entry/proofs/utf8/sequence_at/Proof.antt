@@ -1,4 +1,4 @@
--- `ownlist_entry::utf8::sequence_at` meets its contract: one law for each way out. Assumes nothing.
+-- `ownlist_entry::utf8::sequence_at` meets its contract: one law for each way out.
 use mathlib.Core.Path.{ap, _∙_}
 use lib.ListN.{drop}
 use Rattle.identifier_rules.specs.Utf8.{second}

@@ -1,4 +1,4 @@
--- `ownlist_entry::visible::is_other` meets its contract: a byte that passes both tests is visible. Assumes nothing.
+-- `ownlist_entry::visible::is_other` meets its contract: a byte that passes both tests is visible.
 use Rattle.ownlist_entry.proofs.ByteSequences.{smooth-visible}
 use Rattle.ownlist_entry.proofs.visible.is_other.Statement.{statement}
 use Rattle.ownlist_entry.proofs.visible.is_other.Tie as tie

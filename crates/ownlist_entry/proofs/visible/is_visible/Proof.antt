@@ -1,4 +1,4 @@
--- `ownlist_entry::visible::is_visible` meets its contract: by the two tests. Assumes nothing.
+-- `ownlist_entry::visible::is_visible` meets its contract: by the two tests.
 use borrow.Author.Tests.{le-leb, lt-leb}
 use Rattle.base_readers.specs.Texts.{within}
 use Rattle.lexis_rules.specs.Bytes.{inClass}

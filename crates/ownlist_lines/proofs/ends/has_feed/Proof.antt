@@ -1,5 +1,4 @@
--- `ownlist_lines::ends::has_feed` meets its contract: as long as no byte has hit, the line ends where it ends from the first place on. Assumes
--- nothing.
+-- `ownlist_lines::ends::has_feed` meets its contract: as long as no byte has hit, the line ends where it ends from the first place on.
 use Prim.Native.Nat.{_+_, _-_, _≤_}
 use native.Mathlib.Omega.{arith}
 use mathlib.Core.Path.{_≡_}

@@ -1,4 +1,4 @@
--- `ownlist_lines::ends::line_ends` meets its contract: at each turn the ends that are left, stored from there on, give what all ends give. Assumes nothing.
+-- `ownlist_lines::ends::line_ends` meets its contract: at each turn the ends that are left, stored from there on, give what all ends give.
 use Prim.Native.Nat.{_-_, _≤_}
 use native.Mathlib.Omega.{arith}
 use borrow.Author.Needs.{needs}

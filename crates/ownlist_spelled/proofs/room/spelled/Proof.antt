@@ -1,4 +1,4 @@
--- `ownlist_spelled::room::spelled` meets its contract: the array is made so. Assumes nothing.
+-- `ownlist_spelled::room::spelled` meets its contract: the array is made so.
 use mathlib.Core.Path.{refl}
 use Rattle.ownlist_spelled.proofs.room.spelled.Statement.{statement}
 use Rattle.ownlist_spelled.proofs.room.spelled.Tie as tie

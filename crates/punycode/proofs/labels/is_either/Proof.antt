@@ -1,4 +1,4 @@
--- `punycode::labels::is_either` meets its contract: one test after the other. Assumes nothing.
+-- `punycode::labels::is_either` meets its contract: one test after the other.
 use Rattle.punycode.proofs.Labelling.{either-yes, either-no}
 use borrow.Author.Needs.{needs}
 use Rattle.punycode.proofs.labels.is_either.Statement.{statement}

@@ -1,4 +1,4 @@
--- `punycode::labels::is_prefixed` meets its contract: one test after the other. Assumes nothing.
+-- `punycode::labels::is_prefixed` meets its contract: one test after the other.
 use Rattle.punycode.proofs.Labelling.{prefix-1, prefix-2, prefix-3, prefix-4}
 use borrow.Author.Needs.{needs}
 use Rattle.punycode.proofs.labels.is_prefixed.Statement.{statement}

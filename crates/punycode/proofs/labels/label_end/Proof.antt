@@ -1,4 +1,4 @@
--- `punycode::labels::label_end` meets its contract: the run goes on as long as there is no ".". Assumes nothing.
+-- `punycode::labels::label_end` meets its contract: the run goes on as long as there is no ".".
 use Prim.Native.Nat.{_-_}
 use native.Mathlib.Omega.{arith}
 use borrow.Author.Needs.{needs}

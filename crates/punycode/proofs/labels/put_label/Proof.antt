@@ -1,4 +1,4 @@
--- `punycode::labels::put_label` meets its contract: each answer of the decoder is a case of the definition. Assumes nothing.
+-- `punycode::labels::put_label` meets its contract: each answer of the decoder is a case of the definition.
 use Prim.Native.Nat.{_-_}
 use lib.ListN.{length, take, drop}
 use Rattle.punycode_decode.specs.declared.Points.the-variants.{Read}

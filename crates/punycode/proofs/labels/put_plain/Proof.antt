@@ -1,4 +1,4 @@
--- `punycode::labels::put_plain` meets its contract: a label within the limit is written, a longer one is not. Assumes nothing.
+-- `punycode::labels::put_plain` meets its contract: a label within the limit is written, a longer one is not.
 use Rattle.punycode.proofs.Labelling.{plain-over}
 use borrow.Author.Needs.{needs}
 use Rattle.punycode.proofs.labels.put_plain.Statement.{statement}

@@ -1,4 +1,4 @@
--- `punycode::labels::put_spelling` meets its contract: at each label what is left to write gives what the whole gives. Assumes nothing.
+-- `punycode::labels::put_spelling` meets its contract: at each label what is left to write gives what the whole gives.
 use Prim.Native.Nat.{_-_}
 use native.Mathlib.Omega.{arith}
 use borrow.Author.Needs.{needs}

@@ -1,4 +1,4 @@
--- `punycode::utf8::put_point` meets its contract: one to four bytes, by the cases of the definition. Assumes nothing.
+-- `punycode::utf8::put_point` meets its contract: one to four bytes, by the cases of the definition.
 use Rattle.punycode.proofs.Writing.{point-one, point-two, point-three, point-four}
 use borrow.Author.Needs.{needs}
 use Rattle.punycode.proofs.utf8.put_point.Statement.{statement}

@@ -1,4 +1,4 @@
--- `punycode::utf8::put_points` meets its contract: at each turn what is left to write gives what the whole gives. Assumes nothing.
+-- `punycode::utf8::put_points` meets its contract: at each turn what is left to write gives what the whole gives.
 use Prim.Native.Nat.{_-_}
 use native.Mathlib.Omega.{arith}
 use lib.ListN.{getD}

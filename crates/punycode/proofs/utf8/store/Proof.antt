@@ -1,4 +1,4 @@
--- `punycode::utf8::store` meets its contract: a store past the end does nothing. Assumes nothing.
+-- `punycode::utf8::store` meets its contract: a store past the end does nothing.
 use native.Mathlib.Omega.{arith}
 use mathlib.Core.Path.{sym}
 use lib.Seq.{set-out}

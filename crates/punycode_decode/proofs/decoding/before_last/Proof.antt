@@ -1,4 +1,4 @@
--- `punycode_decode::decoding::before_last` meets its contract: the answer from here on is the answer from the start. Assumes nothing.
+-- `punycode_decode::decoding::before_last` meets its contract: the answer from here on is the answer from the start.
 use Prim.Native.Nat.{_-_}
 use native.Mathlib.Omega.{arith}
 use borrow.Author.Needs.{needs}

@@ -1,4 +1,4 @@
--- `punycode_decode::decoding::copy_basics` meets its contract: the bytes so far are basic and copied, and the rest decides. Assumes nothing.
+-- `punycode_decode::decoding::copy_basics` meets its contract: the bytes so far are basic and copied, and the rest decides.
 use Prim.Native.Nat.{_-_}
 use native.Mathlib.Omega.{arith}
 use borrow.Author.Needs.{needs}

@@ -1,4 +1,4 @@
--- `punycode_decode::decoding::insert` meets its contract: those behind the place move on by one, the last first. Assumes nothing.
+-- `punycode_decode::decoding::insert` meets its contract: those behind the place move on by one, the last first.
 use lib.ListN.{length-set}
 use mathlib.Core.Path.{_∙_}
 use Prim.Native.Nat.{_≤_}

@@ -1,4 +1,4 @@
--- `punycode_decode::decoding::read_numbers` meets its contract: before each digit the numbers from here on give what they give from the start. Assumes nothing.
+-- `punycode_decode::decoding::read_numbers` meets its contract: before each digit the numbers from here on give what they give from the start.
 use borrow.Author.Tests.{not-true, not-false}
 use Prim.Native.Nat.{_-_, _+_, _*_, _<_}
 use Rattle.punycode_rules.specs.Punycode.{digitOf, threshold}

@@ -1,4 +1,4 @@
--- `punycode_decode::decoding::read_points` meets its contract: the basic code points, and then the numbers, as in the definition. Assumes nothing.
+-- `punycode_decode::decoding::read_points` meets its contract: the basic code points, and then the numbers, as in the definition.
 use native.Mathlib.Omega.{arith}
 use Rattle.punycode_laws.proofs.Basics.{before-inside, consumed-none, consumed-some}
 use Rattle.punycode_decode.proofs.Copying.{basics-long, basics-opened, basics-then, basics-not}

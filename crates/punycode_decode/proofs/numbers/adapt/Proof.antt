@@ -1,4 +1,4 @@
--- `punycode_decode::numbers::adapt` meets its contract: both branches are cases of the definition. Assumes nothing.
+-- `punycode_decode::numbers::adapt` meets its contract: both branches are cases of the definition.
 use native.Mathlib.Omega.{arith}
 use Prim.Native.Nat.{_/_}
 use native.Mathlib.Nat.{div-le-self}

@@ -1,4 +1,4 @@
--- `punycode_decode::numbers::digit_of` meets its contract: each test in turn is a case of the definition. Assumes nothing.
+-- `punycode_decode::numbers::digit_of` meets its contract: each test in turn is a case of the definition.
 use native.Mathlib.Omega.{arith}
 use Rattle.punycode_laws.proofs.Digits.{small-letter, small-from, capital, capital-from, figure, figure-from, no-digit}
 use borrow.Author.Needs.{needs}

@@ -1,4 +1,4 @@
--- `punycode_decode::numbers::is_scalar` meets its contract: the two tests are those of the definition. Assumes nothing.
+-- `punycode_decode::numbers::is_scalar` meets its contract: the two tests are those of the definition.
 use Rattle.punycode_laws.proofs.Digits.{scalar-low, scalar-high}
 use borrow.Author.Needs.{needs}
 use Rattle.punycode_decode.proofs.numbers.is_scalar.Statement.{statement}

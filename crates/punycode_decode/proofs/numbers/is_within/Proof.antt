@@ -1,4 +1,4 @@
--- `punycode_decode::numbers::is_within` meets its contract: the two tests are those of the definition. Assumes nothing.
+-- `punycode_decode::numbers::is_within` meets its contract: the two tests are those of the definition.
 use Rattle.punycode_laws.proofs.Digits.{within-below, within-from}
 use Rattle.punycode_decode.proofs.numbers.is_within.Statement.{statement}
 use Rattle.punycode_decode.proofs.numbers.is_within.Tie as tie

@@ -1,4 +1,4 @@
--- `punycode_decode::numbers::last` meets its contract: the variables are small, so that nothing overflows. Assumes nothing.
+-- `punycode_decode::numbers::last` meets its contract: the variables are small, so that nothing overflows.
 use native.Mathlib.Omega.{arith}
 use Prim.Native.Nat.{_+_, _*_}
 use native.Mathlib.Nat.{div-le-self, mod-le}

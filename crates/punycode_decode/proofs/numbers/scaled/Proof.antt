@@ -1,4 +1,4 @@
--- `punycode_decode::numbers::scaled` meets its contract: at each turn the bias of what is left is that of the whole. Assumes nothing.
+-- `punycode_decode::numbers::scaled` meets its contract: at each turn the bias of what is left is that of the whole.
 use native.Mathlib.Omega.{arith}
 use Rattle.punycode_laws.proofs.Adapting.{Turns, turns-start, turns-on, turns-end, share}
 use Rattle.punycode_decode.proofs.numbers.scaled.Statement.{statement}

@@ -1,4 +1,4 @@
--- `punycode_decode::numbers::threshold` meets its contract: each test in turn is a case of the definition. Assumes nothing.
+-- `punycode_decode::numbers::threshold` meets its contract: each test in turn is a case of the definition.
 use Rattle.punycode_laws.proofs.Digits.{threshold-low, threshold-high, threshold-between}
 use borrow.Author.Needs.{needs}
 use Rattle.punycode_decode.proofs.numbers.threshold.Statement.{statement}

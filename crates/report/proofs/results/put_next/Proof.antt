@@ -1,4 +1,4 @@
--- `report::results::put_next` meets its contract: the mark, and what stands behind it. Assumes nothing.
+-- `report::results::put_next` meets its contract: the mark, and what stands behind it.
 use mathlib.Core.Path.{refl}
 use borrow.Author.Needs.{needs}
 use Rattle.report.proofs.Turns.{no-mark, turn-put}

@@ -1,5 +1,4 @@
 -- `report::results::put_results` meets its contract: each turn reads one result more, and its lines stay where it is understood.
--- Assumes nothing.
 use native.Mathlib.Omega.{arith}
 use Prim.Native.Nat.{_-_, _≤_, _<_}
 use lib.ListN.{length}

@@ -1,4 +1,4 @@
--- `report_escape::byte::hex_digit` meets its contract: the test of the code is the one of the definition. Assumes nothing.
+-- `report_escape::byte::hex_digit` meets its contract: the test of the code is the one of the definition.
 use borrow.Author.Needs.{needs}
 use Rattle.report_escape.proofs.Escape.{digit-low, digit-high}
 use Rattle.report_escape.proofs.byte.hex_digit.Statement.{statement}

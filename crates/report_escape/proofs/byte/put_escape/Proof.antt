@@ -1,5 +1,5 @@
 -- `report_escape::byte::put_escape` meets its contract: a byte that stands for itself is stored, else the percent sign and two digits one after
--- the other. Assumes nothing.
+-- the other.
 use native.Mathlib.Omega.{arith}
 use borrow.Author.Needs.{needs}
 use Rattle.report_escape.proofs.Escape.{plain-put, other-put}

@@ -1,4 +1,4 @@
--- `result_values::domains::closed_at` meets its contract: each test is one of the definition. Assumes nothing.
+-- `result_values::domains::closed_at` meets its contract: each test is one of the definition.
 use borrow.Author.Needs.{needs}
 use Rattle.result_values.proofs.DomainLabels.{closed-there, closed-other, closed-one}
 use Rattle.result_values.proofs.domains.closed_at.Statement.{statement}

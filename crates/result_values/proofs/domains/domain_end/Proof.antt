@@ -1,4 +1,4 @@
--- `result_values::domains::domain_end` meets its contract: from each place of the loop on there are labels just where the whole run is a domain. Assumes nothing.
+-- `result_values::domains::domain_end` meets its contract: from each place of the loop on there are labels just where the whole run is a domain.
 use Prim.Native.Nat.{_-_}
 use native.Mathlib.Omega.{arith}
 use lib.ListN.{length}

@@ -1,4 +1,4 @@
--- `result_values::domains::goes_on` meets its contract: each test is one of the definition. Assumes nothing.
+-- `result_values::domains::goes_on` meets its contract: each test is one of the definition.
 use Rattle.result_values.proofs.DomainLabels.{goes-alphanumeric, goes-dot, goes-hyphen, goes-not}
 use borrow.Author.Needs.{needs}
 use Rattle.result_values.proofs.domains.goes_on.Statement.{statement}

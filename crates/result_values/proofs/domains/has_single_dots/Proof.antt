@@ -1,4 +1,4 @@
--- `result_values::domains::has_single_dots` meets its contract: from each place of the loop on the dots are as sound as from the front. Assumes nothing.
+-- `result_values::domains::has_single_dots` meets its contract: from each place of the loop on the dots are as sound as from the front.
 use Prim.Native.Nat.{_-_}
 use native.Mathlib.Omega.{arith}
 use lib.ListN.{length}

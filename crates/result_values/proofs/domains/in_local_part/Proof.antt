@@ -1,4 +1,4 @@
--- `result_values::domains::in_local_part` meets its contract: the binary digit of the byte is asked for. Assumes nothing.
+-- `result_values::domains::in_local_part` meets its contract: the binary digit of the byte is asked for.
 use Rattle.result_values.proofs.DomainLabels.{local-bit}
 use borrow.Author.Needs.{needs}
 use Rattle.result_values.proofs.domains.in_local_part.Statement.{statement}

@@ -1,4 +1,4 @@
--- `result_values::domains::is_alphanumeric` meets its contract: a hyphen is the only byte of keywords that is no letter or digit. Assumes nothing.
+-- `result_values::domains::is_alphanumeric` meets its contract: a hyphen is the only byte of keywords that is no letter or digit.
 use Rattle.result_values.proofs.DomainLabels.{hyphen-alphanumeric, other-alphanumeric}
 use borrow.Author.Needs.{needs}
 use Rattle.result_values.proofs.domains.is_alphanumeric.Statement.{statement}

@@ -1,4 +1,4 @@
--- `result_values::domains::is_doubled` meets its contract: behind a dot, the byte decides. Assumes nothing.
+-- `result_values::domains::is_doubled` meets its contract: behind a dot, the byte decides.
 use borrow.Author.Needs.{needs}
 use Rattle.result_values.proofs.domains.is_doubled.Statement.{statement}
 use Rattle.result_values.proofs.domains.is_doubled.Tie as tie

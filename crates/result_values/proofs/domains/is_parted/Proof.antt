@@ -1,4 +1,4 @@
--- `result_values::domains::is_parted` meets its contract: where no dot was seen before, the byte decides. Assumes nothing.
+-- `result_values::domains::is_parted` meets its contract: where no dot was seen before, the byte decides.
 use borrow.Author.Needs.{needs}
 use Rattle.result_values.proofs.domains.is_parted.Statement.{statement}
 use Rattle.result_values.proofs.domains.is_parted.Tie as tie

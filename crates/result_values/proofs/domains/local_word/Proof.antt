@@ -1,4 +1,4 @@
--- `result_values::domains::local_word` meets its contract: each test is one of the definition. Assumes nothing.
+-- `result_values::domains::local_word` meets its contract: each test is one of the definition.
 use Rattle.result_values.proofs.DomainLabels.{local-first, local-second, local-none}
 use Rattle.result_values.proofs.domains.local_word.Statement.{statement}
 use Rattle.result_values.proofs.domains.local_word.Tie as tie

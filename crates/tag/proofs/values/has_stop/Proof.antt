@@ -1,4 +1,4 @@
--- `tag::values::has_stop` meets its contract: as long as no byte has hit, the run ends where it ends from the first place on. Assumes nothing.
+-- `tag::values::has_stop` meets its contract: as long as no byte has hit, the run ends where it ends from the first place on.
 use Prim.Native.Nat.{_+_, _-_, _≤_}
 use native.Mathlib.Omega.{arith}
 use mathlib.Core.Path.{_≡_}

@@ -1,4 +1,4 @@
--- `tag::values::is_stop` meets its contract: a byte that no test stops stands in a run of plain bytes. Assumes nothing.
+-- `tag::values::is_stop` meets its contract: a byte that no test stops stands in a run of plain bytes.
 use Rattle.lexis_laws.proofs.Bytes.{tag-unstopped}
 use Rattle.tag.proofs.values.is_stop.Statement.{statement}
 use Rattle.tag.proofs.values.is_stop.Tie as tie

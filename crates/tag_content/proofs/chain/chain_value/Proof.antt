@@ -1,4 +1,4 @@
--- `tag_content::chain::chain_value` meets its contract: the words are tried in turn. Assumes nothing.
+-- `tag_content::chain::chain_value` meets its contract: the words are tried in turn.
 use borrow.Author.Needs.{needs}
 use Rattle.tag_content.proofs.ChainValues.{chain-none, chain-pass, chain-fail, chain-other}
 use Rattle.tag_content.proofs.chain.chain_value.Statement.{statement}

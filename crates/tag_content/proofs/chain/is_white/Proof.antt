@@ -1,4 +1,4 @@
--- `tag_content::chain::is_white` meets its contract: the four bytes are tried in turn. Assumes nothing.
+-- `tag_content::chain::is_white` meets its contract: the four bytes are tried in turn.
 use Rattle.tag_content.proofs.ChainValues.{white-space, white-tab, white-return, white-feed}
 use Rattle.tag_content.proofs.chain.is_white.Statement.{statement}
 use Rattle.tag_content.proofs.chain.is_white.Tie as tie

@@ -1,4 +1,4 @@
--- `tag_content::chain::solid_end` meets its contract: what is behind the place of the loop is space. Assumes nothing.
+-- `tag_content::chain::solid_end` meets its contract: what is behind the place of the loop is space.
 use native.Mathlib.Omega.{arith}
 use borrow.Author.Needs.{needs}
 use Rattle.tag_content.proofs.ChainValues.{Solid, solid-start, solid-last, solid-on, solid-off, solid-out}

@@ -1,4 +1,4 @@
--- `tag_list::linked::link` meets its contract: each of the three stores is one of the definition. Assumes nothing.
+-- `tag_list::linked::link` meets its contract: each of the three stores is one of the definition.
 use mathlib.Core.Path.{refl, ap}
 use lib.ListN.{set}
 use borrow.Author.Needs.{needs}

@@ -1,4 +1,4 @@
--- `tag_list::linked::seek` meets its contract: what is passed on the way along the links is of other buckets. Assumes nothing.
+-- `tag_list::linked::seek` meets its contract: what is passed on the way along the links is of other buckets.
 use native.Mathlib.Omega.{arith}
 use borrow.Author.Needs.{needs}
 use Rattle.tag_list.proofs.Linking.{Seeking, seeking-start, seeking-inside, seeking-linked, seeking-end, seeking-found, seeking-on, seeking-less}

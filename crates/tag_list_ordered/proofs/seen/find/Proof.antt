@@ -1,5 +1,5 @@
 -- `tag_list_ordered::seen::find` meets its contract: names before `lo` are before the name, those from `hi` on are after it, and the name in the middle
--- says on which side to go on. Assumes nothing.
+-- says on which side to go on.
 use Prim.Native.Nat.{_-_}
 use native.Mathlib.Omega.{arith}
 use borrow.Author.Needs.{needs}

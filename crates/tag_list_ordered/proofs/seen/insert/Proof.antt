@@ -1,5 +1,5 @@
 -- `tag_list_ordered::seen::insert` meets its contract: putting the place in from each place of the loop on leaves what putting it in at the start would
--- have left. Assumes nothing.
+-- have left.
 use native.Mathlib.Omega.{arith}
 use mathlib.Core.Path.{_∙_}
 use lib.ListN.{length-set}

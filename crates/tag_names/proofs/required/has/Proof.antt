@@ -1,4 +1,4 @@
--- `tag_names::required::has` meets its contract: from each place of the loop on the name is there where it is from the first. Assumes nothing.
+-- `tag_names::required::has` meets its contract: from each place of the loop on the name is there where it is from the first.
 use Prim.Native.Nat.{_-_}
 use native.Mathlib.Omega.{arith}
 use mathlib.Core.Path.{_≡_, refl}

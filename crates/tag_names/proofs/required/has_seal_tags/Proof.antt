@@ -1,4 +1,4 @@
--- `tag_names::required::has_seal_tags` meets its contract: the names are looked for in turn. Assumes nothing.
+-- `tag_names::required::has_seal_tags` meets its contract: the names are looked for in turn.
 use Rattle.tag_names.proofs.Needed.{needed-not, needed-on, needed-last}
 use borrow.Author.Needs.{needs}
 use Rattle.tag_names.proofs.required.has_seal_tags.Statement.{statement}

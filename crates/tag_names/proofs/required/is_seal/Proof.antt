@@ -1,4 +1,4 @@
--- `tag_names::required::is_seal` meets its contract: each test is one of the definition. Assumes nothing.
+-- `tag_names::required::is_seal` meets its contract: each test is one of the definition.
 use Rattle.tag_names.proofs.Needed.{seal-no-value, seal-header, seal-rest}
 use borrow.Author.Needs.{needs}
 use Rattle.tag_names.proofs.required.is_seal.Statement.{statement}

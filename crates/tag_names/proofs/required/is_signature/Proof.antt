@@ -1,4 +1,4 @@
--- `tag_names::required::is_signature` meets its contract: the names are looked for in turn. Assumes nothing.
+-- `tag_names::required::is_signature` meets its contract: the names are looked for in turn.
 use Rattle.tag_names.proofs.Needed.{needed-not, needed-on, needed-last}
 use borrow.Author.Needs.{needs}
 use Rattle.base_readers.specs.Texts.{bytes}

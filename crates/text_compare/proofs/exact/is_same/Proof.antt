@@ -1,4 +1,4 @@
--- `text_compare::exact::is_same` meets its contract: the runs are the same from each place on where they are the same. Assumes nothing.
+-- `text_compare::exact::is_same` meets its contract: the runs are the same from each place on where they are the same.
 use Prim.Native.Nat.{_-_, _≤_}
 use native.Mathlib.Omega.{arith}
 use mathlib.Core.Path.{_≡_, refl}

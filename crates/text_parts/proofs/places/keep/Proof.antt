@@ -1,4 +1,4 @@
--- `text_parts::places::keep` meets its contract: where there is no such place the definition's store changes nothing. Assumes nothing.
+-- `text_parts::places::keep` meets its contract: where there is no such place the definition's store changes nothing.
 use mathlib.Core.Path.{refl, sym}
 use lib.Seq.{set-out}
 use borrow.Author.Needs.{needs}

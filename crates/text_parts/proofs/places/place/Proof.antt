@@ -1,4 +1,4 @@
--- `text_parts::places::place` meets its contract: past the end stands 0. Assumes nothing.
+-- `text_parts::places::place` meets its contract: past the end stands 0.
 use Prim.Native.Nat.{ℕ, _≤_}
 use mathlib.Core.Path.{_≡_, sym}
 use mathlib.Core.List.{List}

@@ -1,5 +1,5 @@
 -- `text_write::decimals::put_decimal` meets its contract: the digits of the tenth and then the last one are the digits of the number. It calls itself for
--- the tenth, which is smaller. Assumes nothing.
+-- the tenth, which is smaller.
 use Prim.Native.Nat.{ℕ, _<_}
 use borrow.Author.Needs.{needs}
 use borrow.Fn.Kinds.{In}

@@ -1,4 +1,4 @@
--- `text_write::phrases::bar_from` meets its contract: as long as no bar stands there the run goes on. Assumes nothing.
+-- `text_write::phrases::bar_from` meets its contract: as long as no bar stands there the run goes on.
 use Prim.Native.Nat.{_-_}
 use native.Mathlib.Omega.{arith}
 use borrow.Author.Needs.{needs}

@@ -1,4 +1,4 @@
--- `text_write::phrases::put_phrase` meets its contract: from where the phrase starts to the next bar. Assumes nothing.
+-- `text_write::phrases::put_phrase` meets its contract: from where the phrase starts to the next bar.
 use Rattle.text_write.proofs.Bars.{phrase-long, phrase-put}
 use borrow.Author.Needs.{needs}
 use Rattle.text_write.proofs.phrases.put_phrase.Statement.{statement}

@@ -1,4 +1,4 @@
--- `text_write::phrases::start` meets its contract: behind each bar one phrase less is to be passed. Assumes nothing.
+-- `text_write::phrases::start` meets its contract: behind each bar one phrase less is to be passed.
 use native.Mathlib.Omega.{arith}
 use borrow.Author.Needs.{needs}
 use Rattle.text_write.proofs.Bars.{Passed, passed-none, passed-all, passed-last, passed-more}

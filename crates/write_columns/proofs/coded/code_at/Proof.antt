@@ -1,4 +1,4 @@
--- `write_columns::coded::code_at` meets its contract: each way out has its law in `Codes`. Assumes nothing.
+-- `write_columns::coded::code_at` meets its contract: each way out has its law in `Codes`.
 use Rattle.write_columns.proofs.Codes.{code-itself, code-neither, code-no-first, code-no-second, code-needless, code-percent}
 use borrow.Author.Needs.{needs}
 use Rattle.write_columns.proofs.coded.code_at.Statement.{statement}

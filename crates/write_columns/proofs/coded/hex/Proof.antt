@@ -1,4 +1,4 @@
--- `write_columns::coded::hex` meets its contract: each way out has its law in `Codes`. Assumes nothing.
+-- `write_columns::coded::hex` meets its contract: each way out has its law in `Codes`.
 use Rattle.write_columns.proofs.Codes.{hex-below, hex-digit, hex-between, hex-letter, hex-above}
 use borrow.Author.Needs.{needs}
 use Rattle.write_columns.proofs.coded.hex.Statement.{statement}

@@ -1,4 +1,4 @@
--- `write_columns::coded::in_test` meets its contract: each way out has its law in `Tests`. Assumes nothing.
+-- `write_columns::coded::in_test` meets its contract: each way out has its law in `Tests`.
 use Rattle.write_columns.proofs.Tests.{in-text-yes, in-text-no, in-token, in-identifier, in-local}
 use borrow.Author.Needs.{needs}
 use Rattle.write_columns.proofs.coded.in_test.Statement.{statement}

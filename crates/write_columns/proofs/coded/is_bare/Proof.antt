@@ -1,4 +1,4 @@
--- `write_columns::coded::is_bare` meets its contract: each way out has its law in `Tests`. Assumes nothing.
+-- `write_columns::coded::is_bare` meets its contract: each way out has its law in `Tests`.
 use Rattle.write_columns.proofs.Tests.{bare-none, bare-each}
 use borrow.Author.Needs.{needs}
 use Rattle.write_columns.proofs.coded.is_bare.Statement.{statement}

@@ -1,4 +1,4 @@
--- `write_columns::coded::is_each` meets its contract: the loop keeps `Testing`, and each way out has its law. Assumes nothing.
+-- `write_columns::coded::is_each` meets its contract: the loop keeps `Testing`, and each way out has its law.
 use Rattle.write_columns.proofs.Tests.{Testing, testing-start, testing-done, testing-on, testing-off}
 use Rattle.write_columns.proofs.Codes.{text-turn, text-less}
 use borrow.Author.Needs.{needs}

@@ -1,4 +1,4 @@
--- `write_columns::coded::is_literal` meets its contract: the loop keeps `Spelling`, and each way out has its law. Assumes nothing.
+-- `write_columns::coded::is_literal` meets its contract: the loop keeps `Spelling`, and each way out has its law.
 use Rattle.write_columns.proofs.Literals.{Spelling, spelling-start, spelling-done, spelling-off, spelling-on, spelling-less}
 use borrow.Author.Needs.{needs}
 use lib.ListN.{length}

@@ -1,4 +1,4 @@
--- `write_columns::coded::is_plain` meets its contract: each way out has its law in `Codes`. Assumes nothing.
+-- `write_columns::coded::is_plain` meets its contract: each way out has its law in `Codes`.
 use Rattle.write_columns.proofs.Codes.{percent-other, visible-plain}
 use borrow.Author.Needs.{needs}
 use Rattle.write_columns.proofs.coded.is_plain.Statement.{statement}

@@ -1,4 +1,4 @@
--- `write_columns::coded::text_at` meets its contract: the loop keeps `Walking`, and each way out has its law. Assumes nothing.
+-- `write_columns::coded::text_at` meets its contract: the loop keeps `Walking`, and each way out has its law.
 use Rattle.write_columns.proofs.Tests.{Walking, walking-start, walking-done, walking-on}
 use Rattle.write_columns.proofs.Codes.{text-turn, text-less}
 use lib.ListN.{length}

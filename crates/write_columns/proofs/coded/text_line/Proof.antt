@@ -1,4 +1,4 @@
--- `write_columns::coded::text_line` meets its contract: each way out has its law in `Tails`. Assumes nothing.
+-- `write_columns::coded::text_line` meets its contract: each way out has its law in `Tails`.
 use Rattle.write_columns.proofs.Tails.{line-unfed, line-fits, line-untexted, line-found}
 use borrow.Author.Needs.{needs}
 use Rattle.write_columns.proofs.coded.text_line.Statement.{statement}

@@ -1,4 +1,4 @@
--- `write_columns::shown::is_allowed` meets its contract: each way out has its law in `Allowed`. Assumes nothing.
+-- `write_columns::shown::is_allowed` meets its contract: each way out has its law in `Allowed`.
 use Rattle.write_columns.proofs.Allowed.{allowed-not, allowed-stands}
 use borrow.Author.Needs.{needs}
 use Rattle.write_columns.proofs.shown.is_allowed.Statement.{statement}

@@ -1,4 +1,4 @@
--- `write_columns::shown::is_at_domain` meets its contract: each way out has its law in `Shapes`. Assumes nothing.
+-- `write_columns::shown::is_at_domain` meets its contract: each way out has its law in `Shapes`.
 use Rattle.write_columns.proofs.Shapes.{at-domain-not, at-domain-there, at-domain-is}
 use borrow.Author.Needs.{needs}
 use Rattle.write_columns.proofs.shown.is_at_domain.Statement.{statement}

@@ -1,4 +1,4 @@
--- `write_columns::shown::is_kind` meets its contract: each way out has its law in `Showing`. Assumes nothing.
+-- `write_columns::shown::is_kind` meets its contract: each way out has its law in `Showing`.
 use Rattle.write_columns.proofs.Showing.{kind-t, kind-q, kind-m, kind-a}
 use Rattle.write_columns.proofs.shown.is_kind.Statement.{statement}
 use Rattle.write_columns.proofs.shown.is_kind.Tie as tie

@@ -1,4 +1,4 @@
--- `write_columns::shown::is_mailbox` meets its contract: each way out has its law in `Shapes`. Assumes nothing.
+-- `write_columns::shown::is_mailbox` meets its contract: each way out has its law in `Shapes`.
 use Rattle.write_columns.proofs.Shapes.{take-long, mailbox-unsigned, mailbox-untexted, mailbox-is}
 use borrow.Author.Needs.{needs}
 use Rattle.write_columns.proofs.shown.is_mailbox.Statement.{statement}

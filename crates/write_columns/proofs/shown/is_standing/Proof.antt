@@ -1,4 +1,4 @@
--- `write_columns::shown::is_standing` meets its contract: each way out has its law in `Shapes`. Assumes nothing.
+-- `write_columns::shown::is_standing` meets its contract: each way out has its law in `Shapes`.
 use Rattle.write_columns.proofs.Shapes.{kind-token, kind-quoted, kind-mailbox, kind-at-domain}
 use borrow.Author.Needs.{needs}
 use Rattle.write_columns.proofs.shown.is_standing.Statement.{statement}

@@ -1,4 +1,4 @@
--- `write_columns::shown::last_sign` meets its contract: the loop keeps `Signing`, and each way out has its law. Assumes nothing.
+-- `write_columns::shown::last_sign` meets its contract: the loop keeps `Signing`, and each way out has its law.
 use Rattle.write_columns.proofs.Shapes.{Signing, signing-start, signing-none, signing-there, signing-found, signing-more, signing-less}
 use borrow.Author.Needs.{needs}
 use Rattle.write_columns.proofs.shown.last_sign.Statement.{statement}

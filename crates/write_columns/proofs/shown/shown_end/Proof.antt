@@ -1,4 +1,4 @@
--- `write_columns::shown::shown_end` meets its contract: each way out has its law in `Allowed`. Assumes nothing.
+-- `write_columns::shown::shown_end` meets its contract: each way out has its law in `Allowed`.
 use Rattle.write_columns.proofs.Allowed.{valued-not, valued-coded, valued-fits, valued-one, valued-before, valued-inside, valued-unallowed, valued-allowed}
 use borrow.Author.Needs.{needs}
 use Rattle.write_columns.proofs.shown.shown_end.Statement.{statement}

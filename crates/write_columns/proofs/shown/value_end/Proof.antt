@@ -1,4 +1,4 @@
--- `write_columns::shown::value_end` meets its contract: each way out has its law in `Showing`. Assumes nothing.
+-- `write_columns::shown::value_end` meets its contract: each way out has its law in `Showing`.
 use Rattle.write_columns.proofs.Showing.{shown-unkind, shown-untabbed, shown-fits, shown-unfed, shown-last, shown-found}
 use borrow.Author.Needs.{needs}
 use Rattle.write_columns.proofs.shown.value_end.Statement.{statement}

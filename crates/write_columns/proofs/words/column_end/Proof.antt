@@ -1,4 +1,4 @@
--- `write_columns::words::column_end` meets its contract: each way out has its law in `Keywords`. Assumes nothing.
+-- `write_columns::words::column_end` meets its contract: each way out has its law in `Keywords`.
 use Rattle.write_columns.proofs.Keywords.{column-closed, column-open}
 use borrow.Author.Needs.{needs}
 use Rattle.write_columns.proofs.words.column_end.Statement.{statement}

@@ -1,4 +1,4 @@
--- `write_columns::words::is_keyword` meets its contract: each way out has its law in `Keywords`. Assumes nothing.
+-- `write_columns::words::is_keyword` meets its contract: each way out has its law in `Keywords`.
 use Rattle.write_columns.proofs.Keywords.{keyword-empty, keyword-part, keyword-whole}
 use borrow.Author.Needs.{needs}
 use Rattle.write_columns.proofs.words.is_keyword.Statement.{statement}

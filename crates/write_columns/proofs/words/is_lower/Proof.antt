@@ -1,4 +1,4 @@
--- `write_columns::words::is_lower` meets its contract: the loop keeps `Lowering`, and each way out has its law. Assumes nothing.
+-- `write_columns::words::is_lower` meets its contract: the loop keeps `Lowering`, and each way out has its law.
 use Rattle.write_columns.proofs.Keywords.{Lowering, lowering-start, lowering-done, lowering-off, lowering-on, lowering-less}
 use borrow.Author.Needs.{needs}
 use lib.ListN.{length}
