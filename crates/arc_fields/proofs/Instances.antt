@@ -27,7 +27,7 @@ use Rattle.lexis_laws.proofs.Numbers.{decimal-more}
 use Rattle.arc_rules.specs.declared.Kind.the-variants.{Results, Signature, Seal, Other}
 use Rattle.arc_rules.specs.Sets.{kindNamed, isInstance, instance}
 use Rattle.base_sequences.specs.Spans.{span}
-use Rattle.arc_fields.specs.Internal.{marked, worth, numbered}
+use Rattle.arc_fields.specs.Internal.{separated, worth, numbered}
 
 -- ==== kinds
 
@@ -64,13 +64,13 @@ module _ (n : ℕ) where
 -- ==== a byte with the space before it
 
 module _ (c : ℕ) (xs : List ℕ) where
-  marked-yes : starts (λ b. eqb b c) (drop (space xs) xs) ≡ true → marked c xs ≡ space xs + 1
-  unfolding marked
-  marked-yes h = rw (marked, h)
+  separated-yes : starts (λ b. eqb b c) (drop (space xs) xs) ≡ true → separated c xs ≡ space xs + 1
+  unfolding separated
+  separated-yes h = rw (separated, h)
 
-  marked-no : starts (λ b. eqb b c) (drop (space xs) xs) ≡ false → marked c xs ≡ 0
-  unfolding marked
-  marked-no h = rw (marked, h)
+  separated-no : starts (λ b. eqb b c) (drop (space xs) xs) ≡ false → separated c xs ≡ 0
+  unfolding separated
+  separated-no h = rw (separated, h)
 
 module _ (s : List ℕ) (at a c : ℕ) (q : a ≡ at + space (drop at s)) where
   moved : drop (space (drop at s)) (drop at s) ≡ drop a s
@@ -80,39 +80,39 @@ module _ (s : List ℕ) (at a c : ℕ) (q : a ≡ at + space (drop at s)) where
   unfolding starts
   met h = rw (moved, drop-cons s a 0 h)
 
-  pub mark-there : a < length s → getD s a 0 ≡ c → a + 1 ≡ at + marked c (drop at s)
-  mark-there h i = omega (arith, marked-yes c (drop at s) (met h ∙ eq-eqb (getD s a 0) c i))
+  pub separator-there : a < length s → getD s a 0 ≡ c → a + 1 ≡ at + separated c (drop at s)
+  separator-there h i = omega (arith, separated-yes c (drop at s) (met h ∙ eq-eqb (getD s a 0) c i))
 
-  pub mark-other : a < length s → (getD s a 0 ≡ c → ⊥) → at ≡ at + marked c (drop at s)
-  mark-other h i = omega (arith, marked-no c (drop at s) (met h ∙ ne-eqb (getD s a 0) c i))
+  pub separator-other : a < length s → (getD s a 0 ≡ c → ⊥) → at ≡ at + separated c (drop at s)
+  separator-other h i = omega (arith, separated-no c (drop at s) (met h ∙ ne-eqb (getD s a 0) c i))
 
-  pub mark-past : length s ≤ a → at ≡ at + marked c (drop at s)
+  pub separator-past : length s ≤ a → at ≡ at + separated c (drop at s)
   unfolding starts
-  mark-past h = omega (arith, marked-no c (drop at s) (rw (moved, drop-of-length-le s h)))
+  separator-past h = omega (arith, separated-no c (drop at s) (rw (moved, drop-of-length-le s h)))
 
 -- a parser goes on behind such a byte, and stops where there is none
-module _ {A : Type 0} (c : ℕ) (k : Parser A) (s : List ℕ) (at e : ℕ) (q : e ≡ at + marked c (drop at s)) where
+module _ {A : Type 0} (c : ℕ) (k : Parser A) (s : List ℕ) (at e : ℕ) (q : e ≡ at + separated c (drop at s)) where
   abbrev behind : Parser A
   behind = _>>_ skip (_>>_ (byte c) k)
 
   skipped : (x : Got A) → x ≡ from (_>>_ (byte c) k) s (at + space (drop at s)) → x ≡ from behind s at
   skipped x h = goes-on skip (λ u. _>>_ (byte c) k) s at tt (at + space (drop at s)) x (skipping-at space s at _ refl) h
 
-  pub mark-goes : (e ≡ at → ⊥) → (x : Got A) → x ≡ from k s e → x ≡ from behind s at
-  mark-goes ne x h = go (starts (λ b. eqb b c) (drop (space (drop at s)) (drop at s))) refl
+  pub separator-goes : (e ≡ at → ⊥) → (x : Got A) → x ≡ from k s e → x ≡ from behind s at
+  separator-goes ne x h = go (starts (λ b. eqb b c) (drop (space (drop at s)) (drop at s))) refl
     where
       go : (t : Bool) → starts (λ b. eqb b c) (drop (space (drop at s)) (drop at s)) ≡ t → x ≡ from behind s at
       go true j =
           let a = at + space (drop at s) in
           let b : byte c (drop a s) ≡ got tt 1 = rw (← moved s at a c refl) (byte-is c (drop (space (drop at s)) (drop at s)) j) in
-          skipped x (goes-on (byte c) (λ u. k) s a tt e x (at-got (byte c) s a tt 1 e b (omega (arith, marked-yes c (drop at s) j))) h)
-      go false j = absurd (ne (omega (arith, marked-no c (drop at s) j)))
+          skipped x (goes-on (byte c) (λ u. k) s a tt e x (at-got (byte c) s a tt 1 e b (omega (arith, separated-yes c (drop at s) j))) h)
+      go false j = absurd (ne (omega (arith, separated-no c (drop at s) j)))
 
-  pub mark-stops : e ≡ at → nothing ≡ from behind s at
-  mark-stops i = go (starts (λ b. eqb b c) (drop (space (drop at s)) (drop at s))) refl
+  pub separator-stops : e ≡ at → nothing ≡ from behind s at
+  separator-stops i = go (starts (λ b. eqb b c) (drop (space (drop at s)) (drop at s))) refl
     where
       go : (t : Bool) → starts (λ b. eqb b c) (drop (space (drop at s)) (drop at s)) ≡ t → nothing ≡ from behind s at
-      go true j = absurd (omega (arith, marked-yes c (drop at s) j))
+      go true j = absurd (omega (arith, separated-yes c (drop at s) j))
       go false j =
           let a = at + space (drop at s) in
           let b : byte c (drop a s) ≡ nothing = rw (← moved s at a c refl) (byte-not c (drop (space (drop at s)) (drop at s)) j) in
@@ -226,17 +226,17 @@ module _ (s : List ℕ) (at e : ℕ) (q : e ≡ at + run (inClass Digit) (drop a
     pub number-none : r ≡ false → nothing ≡ from numbered s at
     number-none t = digits-there nothing (stops (when (isInstance (span s at e))) _ s e (fails _ s e (decided ∙ t)))
 
-    module _ (t : r ≡ true) (f : ℕ) (p : f ≡ e + marked 59 (drop e s)) where
+    module _ (t : r ≡ true) (f : ℕ) (p : f ≡ e + separated 59 (drop e s)) where
       passed : (x : Got ℕ) → x ≡ from (_>>_ skip (_>>_ (byte 59) (give (decimal 0 (span s at e))))) s e → x ≡ from numbered s at
       passed x j = digits-there x (goes-on (when (isInstance (span s at e))) _ s e tt e x (passes _ s e (decided ∙ t)) j)
 
       pub number-open : f ≡ e → nothing ≡ from numbered s at
-      number-open z = passed nothing (mark-stops 59 (give (decimal 0 (span s at e))) s e f p z)
+      number-open z = passed nothing (separator-stops 59 (give (decimal 0 (span s at e))) s e f p z)
 
       pub number-read : (f ≡ e → ⊥) → got n f ≡ from numbered s at
       number-read nf =
           let i : n ≡ decimal 0 (span s at e) = w ∙ worth-number (span s at e) (decided ∙ t) in
-          rw i (passed (got (decimal 0 (span s at e)) f) (mark-goes 59 (give (decimal 0 (span s at e))) s e f p nf _ (gives (decimal 0 (span s at e)) s f)))
+          rw i (passed (got (decimal 0 (span s at e)) f) (separator-goes 59 (give (decimal 0 (span s at e))) s e f p nf _ (gives (decimal 0 (span s at e)) s f)))
 
 module _ (s : List ℕ) where
   -- at the front
@@ -244,16 +244,16 @@ module _ (s : List ℕ) where
   unfolding from
   front = after-zero (instance s)
 
-  module _ (a : ℕ) (q : a ≡ 0 + marked 105 (drop 0 s)) where
+  module _ (a : ℕ) (q : a ≡ 0 + separated 105 (drop 0 s)) where
     pub instance-no-name : a ≡ 0 → nothing ≡ instance s
     unfolding instance
-    instance-no-name z = mark-stops 105 _ s 0 a q z ∙ front
+    instance-no-name z = separator-stops 105 _ s 0 a q z ∙ front
 
-    module _ (ne : a ≡ 0 → ⊥) (b : ℕ) (p : b ≡ a + marked 61 (drop a s)) where
+    module _ (ne : a ≡ 0 → ⊥) (b : ℕ) (p : b ≡ a + separated 61 (drop a s)) where
       pub instance-no-equals : b ≡ a → nothing ≡ instance s
       unfolding instance
-      instance-no-equals z = mark-goes 105 _ s 0 a q ne _ (mark-stops 61 _ s a b p z) ∙ front
+      instance-no-equals z = separator-goes 105 _ s 0 a q ne _ (separator-stops 61 _ s a b p z) ∙ front
 
       pub instance-from : (b ≡ a → ⊥) → (c : ℕ) → c ≡ b + space (drop b s) → (x : Got ℕ) → x ≡ from numbered s c → x ≡ instance s
       unfolding instance numbered
-      instance-from nb c w x h = mark-goes 105 _ s 0 a q ne _ (mark-goes 61 _ s a b p nb _ (goes-on skip _ s b tt c x (skipping-at space s b c w) h)) ∙ front
+      instance-from nb c w x h = separator-goes 105 _ s 0 a q ne _ (separator-goes 61 _ s a b p nb _ (goes-on skip _ s b tt c x (skipping-at space s b c w) h)) ∙ front

@@ -15,8 +15,8 @@ use Rattle.arc_rules.specs.Sets.{isInstance}
 -- ==== the instance
 
 -- a byte with the space before it
-unfoldable pub marked : ℕ → Reader
-marked c xs = elim (starts (λ b. eqb b c) (drop (space xs) xs)) [ true ↦ space xs + 1 | false ↦ 0 ]
+unfoldable pub separated : ℕ → Reader
+separated c xs = elim (starts (λ b. eqb b c) (drop (space xs) xs)) [ true ↦ space xs + 1 | false ↦ 0 ]
 
 -- one or two digits; 0 for more
 unfoldable pub worth : List ℕ → ℕ

@@ -10,7 +10,7 @@ ghost use Rattle.base_readers.specs.Places.{from};
 ghost use Rattle.lexis_rules.specs.Bytes.{inClass};
 ghost use Rattle.arc_rules.specs.Sets.{firstInstance, lastInstance, instance};
 ghost use Rattle.arc_fields.specs.Answers.{noInstance, startGot};
-ghost use Rattle.arc_fields.specs.Internal.{marked, worth, numbered};
+ghost use Rattle.arc_fields.specs.Internal.{separated, worth, numbered};
 
 pub mod kinds;
 
@@ -45,8 +45,8 @@ impl Instance {
 }
 
 // The place after a byte with the space before it, and the place itself where there is no such byte.
-fn mark_end(s: &[u8], at: usize, b: u8) -> usize
-    ensures { λ r. ⌜ r ≡ at + marked b (drop at (now (s .entry))) ⌝ }
+fn separator_end(s: &[u8], at: usize, b: u8) -> usize
+    ensures { λ r. ⌜ r ≡ at + separated b (drop at (now (s .entry))) ⌝ }
 {
     let a = lexis_space::space_end(s, at);
     if a < s.len() {
@@ -101,7 +101,7 @@ fn number_at(s: &[u8], at: usize) -> Start
     }
     let n = worth(&s[at..e]);
     if Instance::is_number(n) {
-        let f = mark_end(s, e, b';');
+        let f = separator_end(s, e, b';');
         if f == e {
             return Start::Missing;
         }
@@ -117,11 +117,11 @@ fn number_at(s: &[u8], at: usize) -> Start
 pub fn instance_of(body: &[u8]) -> Start
     ensures { λ r. ⌜ startGot r ≡ instance (now (body .entry)) ⌝ }
 {
-    let a = mark_end(body, 0, b'i');
+    let a = separator_end(body, 0, b'i');
     if a == 0 {
         return Start::Missing;
     }
-    let b = mark_end(body, a, b'=');
+    let b = separator_end(body, a, b'=');
     if b == a {
         return Start::Missing;
     }

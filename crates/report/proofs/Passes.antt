@@ -14,7 +14,7 @@ use Rattle.base_readers.proofs.Repeats.{list-none, end-none, further, list-more
 use Rattle.lexis_rules.specs.Limits.{byteLimit}
 use Rattle.result_rules.specs.Results.{Result}
 use Rattle.result_rules.specs.Table.{understood}
-use Rattle.result_separators.specs.Marks.{spaced}
+use Rattle.result_separators.specs.Separators.{spaced}
 use Rattle.report_rules.specs.Body.{resinfo}
 use Rattle.report_rules.specs.Report.{resultLines, lines, ignoredOf}
 use Rattle.report_laws.proofs.Sequence.{resinfo-within}

@@ -23,10 +23,10 @@ use Rattle.lexis_rules.specs.Limits.{byteLimit}
 use Rattle.lexis_rules.specs.Bytes.{lower, alike}
 use Rattle.lexis_rules.specs.Pieces.{space, keyword}
 use Rattle.lexis_rules.specs.Words.{keywordText, skip, readKeyword, readWord}
-use Rattle.result_rules.specs.Results.{Result, mark}
-use Rattle.result_separators.specs.Marks.{spaced, marked, markedFrom}
+use Rattle.result_rules.specs.Results.{Result, separator}
+use Rattle.result_separators.specs.Separators.{spaced, separated, separatedFrom}
 use Rattle.base_sequences.specs.Spans.{span}
-use Rattle.result_separators.proofs.Marks.{mark-is, mark-reads, mark-found, keyword-reads, marked-no}
+use Rattle.result_separators.proofs.Separators.{separator-is, separator-reads, separator-found, keyword-reads, separated-no}
 use Rattle.report_rules.specs.Body.{Reading, malformed, noResult, results, resinfo, resinfos, wordNone, payload}
 use Rattle.report_rules.specs.Report.{line, noneLine, lines}
 use Rattle.report_laws.proofs.Readings.{payload-is}
@@ -56,24 +56,24 @@ none-lower : (k : List ℕ) → same (keywordText k) (bytes "none") ≡ alike k 
 unfolding alike lower within
 none-lower k = refl
 
-module _ (s : List ℕ) (at g : ℕ) (y : g ≡ spaced s at) (a : ℕ) (x : a ≡ markedFrom 59 s at g) where
-  q : a ≡ at + marked 59 (drop at s)
-  q = mark-found s at g 59 y a x
+module _ (s : List ℕ) (at g : ℕ) (y : g ≡ spaced s at) (a : ℕ) (x : a ≡ separatedFrom 59 s at g) where
+  q : a ≡ at + separated 59 (drop at s)
+  q = separator-found s at g 59 y a x
 
-  pub none-no-mark : a ≡ at → false ≡ succeeds wordNone (drop at s)
+  pub none-no-separator : a ≡ at → false ≡ succeeds wordNone (drop at s)
   unfolding wordNone
-  none-no-mark z = succeeds-none wordNone s at (stops (mark 59) _ s at (mark-reads s at 59 .missing a q z))
+  none-no-separator z = succeeds-none wordNone s at (stops (separator 59) _ s at (separator-reads s at 59 .missing a q z))
 
   module _ (na : a ≡ at → ⊥) (e : ℕ) (p : e ≡ a + keyword (drop a s)) where
-    behind-mark : (x : Got (Unit {0})) → x ≡ from (_>>_ (readWord (bytes "none")) (_>>_ skip end)) s a → x ≡ from wordNone s at
+    behind-separator : (x : Got (Unit {0})) → x ≡ from (_>>_ (readWord (bytes "none")) (_>>_ skip end)) s a → x ≡ from wordNone s at
     unfolding wordNone
-    behind-mark x h = goes-on (mark 59) _ s at tt a x (mark-reads s at 59 .there a q na) h
+    behind-separator x h = goes-on (separator 59) _ s at tt a x (separator-reads s at 59 .there a q na) h
 
     pub none-no-word : e ≡ a → false ≡ succeeds wordNone (drop at s)
     unfolding readWord
     none-no-word z =
         succeeds-none wordNone s at
-        (behind-mark nothing (stops (readWord (bytes "none")) _ s a (stops readKeyword _ s a (keyword-reads s a .missing e p z))))
+        (behind-separator nothing (stops (readWord (bytes "none")) _ s a (stops readKeyword _ s a (keyword-reads s a .missing e p z))))
 
     module _ (ne : e ≡ a → ⊥) (r : Bool) (h : r ≡ alike (span s a e) (bytes "none")) where
       is-word : (x : Got (Unit {0})) → x ≡ from (when (alike (span s a e) (bytes "none"))) s e → x ≡ from (readWord (bytes "none")) s a
@@ -83,7 +83,7 @@ module _ (s : List ℕ) (at g : ℕ) (y : g ≡ spaced s at) (a : ℕ) (x : a �
       pub none-other-word : r ≡ false → false ≡ succeeds wordNone (drop at s)
       none-other-word t =
           succeeds-none wordNone s at
-          (behind-mark nothing (stops (readWord (bytes "none")) _ s a (is-word nothing (fails (alike (span s a e) (bytes "none")) s e (sym h ∙ t)))))
+          (behind-separator nothing (stops (readWord (bytes "none")) _ s a (is-word nothing (fails (alike (span s a e) (bytes "none")) s e (sym h ∙ t)))))
 
       -- the word, and after space the end or something else
       pub none-word : r ≡ true → (f : ℕ) → f ≡ spaced s e → leb (length s) f ≡ succeeds wordNone (drop at s)
@@ -91,7 +91,7 @@ module _ (s : List ℕ) (at g : ℕ) (y : g ≡ spaced s at) (a : ℕ) (x : a �
         where
           behind-word : (x : Got (Unit {0})) → x ≡ from end s f → x ≡ from wordNone s at
           behind-word x k =
-              behind-mark x
+              behind-separator x
               (goes-on (readWord (bytes "none")) _ s a tt e x (is-word (got tt e) (passes (alike (span s a e) (bytes "none")) s e (sym h ∙ t)))
               (goes-on skip _ s e tt f x (skipping-at space s e f j) k))
 
@@ -165,7 +165,7 @@ module _ (s : List ℕ) (at : ℕ) where
 module _ (xs : List ℕ) where
   over-no-word : drop (space xs) xs ≡ [] → wordNone xs ≡ nothing
   unfolding wordNone starts
-  over-no-word z = bind-none (mark 59) _ xs (mark-is 59 xs ∙ pass-not (marked 59) xs (marked-no 59 xs (rw z)))
+  over-no-word z = bind-none (separator 59) _ xs (separator-is 59 xs ∙ pass-not (separated 59) xs (separated-no 59 xs (rw z)))
 
   -- where the word stands no list of results does, not even an empty one
   word-no-list : (u : Unit {0}) (n : ℕ) → wordNone xs ≡ got u n → (rs : List Result) → Reads xs rs → ⊥

@@ -14,7 +14,7 @@ use Rattle.lexis_rules.specs.Bytes.{inClass}
 use Rattle.identifier_rules.specs.Version.{stated, headerVersion}
 use Rattle.result_rules.specs.Results.{Result}
 use Rattle.base_sequences.specs.Spans.{span}
-use Rattle.result_separators.specs.Marks.{spaced}
+use Rattle.result_separators.specs.Separators.{spaced}
 use Rattle.result_rules.specs.Table.{understood}
 use Rattle.report_rules.specs.Body.{Reading, unreadable, malformed, newer, noResult, results, resinfo, headed}
 use Rattle.report_rules.specs.Report.{idLine, versionLine, noneLine, resultLines, lines, ignoredOf}

@@ -22,7 +22,7 @@ ghost use Rattle.base_sequences.specs.Stored.{cap};
 ghost use Rattle.base_readers.specs.Texts.{bytes};
 ghost use Rattle.lexis_rules.specs.Limits.{byteLimit};
 ghost use Rattle.identifier.specs.Answers.{identifierAt};
-ghost use Rattle.result_separators.specs.Marks.{spaced};
+ghost use Rattle.result_separators.specs.Separators.{spaced};
 ghost use Rattle.report_rules.specs.Body.{wordNone, payload, headed, reading};
 ghost use Rattle.report_rules.specs.Report.{report};
 ghost use Rattle.report_rules.specs.Answers.{answerOf, leaves};
@@ -46,7 +46,7 @@ fn says_none(s: &[u8], at: usize, gap: usize) -> bool
     requires { ⌜ gap ≡ spaced (now s) at ⌝ }
     ensures { λ r. ⌜ r ≡ succeeds wordNone (drop at (now (s .entry))) ⌝ }
 {
-    let a = result_separators::mark_from(s, at, gap, b';');
+    let a = result_separators::separator_from(s, at, gap, b';');
     if a == at {
         return false;
     }

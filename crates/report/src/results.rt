@@ -11,17 +11,17 @@ ghost use Prim.Native.Nat.{_+_, _≤_, _<_, _^_};
 ghost use lib.ListN.{length};
 ghost use Rattle.base_readers.specs.Places.{listAt};
 ghost use Rattle.lexis_rules.specs.Limits.{byteLimit};
-ghost use Rattle.result_separators.specs.Marks.{spaced};
+ghost use Rattle.result_separators.specs.Separators.{spaced};
 ghost use Rattle.report_rules.specs.Body.{resinfo};
 ghost use Rattle.report_rules.specs.Report.{lines};
 ghost use Rattle.report.specs.Internal.{turnLines, TurnPut, ResultsPut};
 
-// The next result behind a place, with its lines: a mark, and what stands behind it.
+// The next result behind a place, with its lines: a separator, and what stands behind it.
 fn put_next(s: &[u8], at: usize, gap: usize, out: &mut [u8], to: usize) -> Turn
     requires { ⌜ (gap ≡ spaced (now s) at) × (to + length (turnLines (now s) at) < 2 ^ 64) ⌝ }
     ensures { λ r. ⌜ TurnPut (now (s .entry)) at (now (out .entry)) to (now (out .exit)) r ⌝ }
 {
-    let a = result_separators::mark_from(s, at, gap, b';');
+    let a = result_separators::separator_from(s, at, gap, b';');
     if a == at {
         return Turn::Missing;
     }

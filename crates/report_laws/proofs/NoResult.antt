@@ -11,14 +11,14 @@ use Rattle.base_readers.specs.Parsers.{nothing, got, Parser, _>>=_, _>>_, when,
 use Rattle.base_readers.proofs.Sequencing.{bind-none, bind-stuck, bind-inv, when-inv, end-inv, byte-not, skipping-is, skipping-inv, optional-none}
 use Rattle.lexis_rules.specs.Pieces.{space}
 use Rattle.lexis_rules.specs.Words.{skip, readKeyword, readWord, readNumber}
-use Rattle.result_rules.specs.Results.{mark, methodVersion, methodspec, result}
+use Rattle.result_rules.specs.Results.{separator, methodVersion, methodspec, result}
 use Rattle.report_rules.specs.Body.{resinfo, wordNone}
 use Rattle.report_laws.proofs.Sequence.{resinfo-not}
 
--- no mark stands where there is nothing but space
-mark-over : (c : ℕ) (xs : List ℕ) → drop (space xs) xs ≡ [] → mark c xs ≡ nothing
-unfolding mark starts
-mark-over c xs e =
+-- no separator stands where there is nothing but space
+separator-over : (c : ℕ) (xs : List ℕ) → drop (space xs) xs ≡ [] → separator c xs ≡ nothing
+unfolding separator starts
+separator-over c xs e =
     bind-stuck skip (λ u. _>>_ (byte c) skip) xs tt (space xs) (skipping-is space xs (space xs) refl)
     (bind-none (byte c) (λ u. skip) (drop (space xs) xs) (byte-not c (drop (space xs) xs) (rw e)))
 
@@ -27,8 +27,8 @@ methodspec-over : (xs k : List ℕ) (n : ℕ) → readKeyword xs ≡ got k n →
 unfolding methodspec methodVersion
 methodspec-over xs k n e z =
     let ys = drop n xs in
-    let v : methodVersion ys ≡ nothing = bind-none (mark 47) (λ u. readNumber) ys (mark-over 47 ys z) in
-    bind-stuck readKeyword _ xs k n e (bind-stuck (optional methodVersion) _ ys none 0 (optional-none methodVersion ys v) (bind-none (mark 61) _ ys (mark-over 61 ys z)))
+    let v : methodVersion ys ≡ nothing = bind-none (separator 47) (λ u. readNumber) ys (separator-over 47 ys z) in
+    bind-stuck readKeyword _ xs k n e (bind-stuck (optional methodVersion) _ ys none 0 (optional-none methodVersion ys v) (bind-none (separator 61) _ ys (separator-over 61 ys z)))
 
 -- ==== the word none
 
@@ -52,10 +52,10 @@ drop-thrice xs s k b c n e f = let o : n ≡ s + (b + c) = omega arith in rw (o,
 
 -- so the body has no result there
 pub word-no-result : (xs : List ℕ) (u : Unit {0}) (n : ℕ) → wordNone xs ≡ got u n → resinfo xs ≡ nothing
-unfolding wordNone mark result
+unfolding wordNone separator result
 word-no-result xs u n h =
     let rest : Parser Unit = _>>_ (readWord (bytes "none")) (_>>_ skip end) in
-    let v = bind-inv (mark 59) (λ u. rest) xs u n h in
+    let v = bind-inv (separator 59) (λ u. rest) xs u n h in
     let s = bind-inv skip (λ u. _>>_ (byte 59) skip) xs (v .val) (v .fst) (v .reads) in
     let f : space xs ≡ s .fst = skipping-inv space xs (s .val) (s .fst) (s .reads) in
     let ys = drop (s .fst) xs in

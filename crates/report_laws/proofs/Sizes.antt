@@ -21,14 +21,14 @@ use Rattle.lexis_rules.specs.Numbers.{numberOf, isOne}
 use Rattle.lexis_laws.proofs.Steadiness.{skip-within, word-within}
 use Rattle.identifier_rules.specs.Identifier.{identifierValue, identifier}
 use Rattle.identifier_rules.specs.Version.{stated, headerVersion}
-use Rattle.result_rules.specs.Results.{Kind, Token, Quoted, Mailbox, AtDomain, Property, Methodspec, Result, mark, orOne, methodVersion, methodspec, reason, property, result}
+use Rattle.result_rules.specs.Results.{Kind, Token, Quoted, Mailbox, AtDomain, Property, Methodspec, Result, separator, orOne, methodVersion, methodspec, reason, property, result}
 use Rattle.result_rules.specs.Table.{understood}
-use Rattle.result_laws.proofs.Following.{mark-within}
+use Rattle.result_laws.proofs.Following.{separator-within}
 use Rattle.result_laws.proofs.Results.{method-version-within}
 use Rattle.report_rules.specs.Body.{Head, Reading, unreadable, malformed, newer, noResult, results, head, resinfo, resinfos, wordNone, payload, headed, reading}
 use Rattle.report_rules.specs.Report.{plain, escape, line, idLine, versionLine, noneLine, methodLine, reasonLine, letterOf, propertyLine, propertyLines, resultLines, lines, refusal, fitted, answer, report}
 use Rattle.report_rules.proofs.Opened.{opened}
-use Rattle.report_laws.proofs.Weights.{Sized, thrice, bind-sized, sized-more, give-sized, optional-sized, several-sized, within-sized, text-sized, value-short, keyword-sized, value-sized, digits-sized, gap-sized, mark-sized, skip-sized, ofValue, property-value-sized}
+use Rattle.report_laws.proofs.Weights.{Sized, thrice, bind-sized, sized-more, give-sized, optional-sized, several-sized, within-sized, text-sized, value-short, keyword-sized, value-sized, digits-sized, gap-sized, separator-sized, skip-sized, ofValue, property-value-sized}
 use Rattle.report_laws.proofs.Heads.{head-within}
 use Rattle.report_laws.proofs.Readings.{Payload, neither, word, some, payload-cases}
 use Rattle.report_laws.proofs.Sequence.{resinfo-within}
@@ -96,9 +96,9 @@ unfolding property
 property-sized =
     bind-sized gap-sized
     (λ u. bind-sized keyword-sized
-    (λ t. bind-sized (mark-sized (code "."))
+    (λ t. bind-sized (separator-sized (code "."))
     (λ u. bind-sized keyword-sized
-    (λ p. bind-sized (mark-sized (code "="))
+    (λ p. bind-sized (separator-sized (code "="))
     (λ u. bind-sized property-value-sized
     (λ v. let a : Property = record { ptype = t; property = p; value = v } in give-sized a (omega (arith, property-line a))))))))
 
@@ -112,7 +112,7 @@ unfolding reason
 reason-sized =
     bind-sized gap-sized
     (λ u. bind-sized (within-sized 1 (word-within (bytes "reason")))
-    (λ u. bind-sized (mark-sized (code "=")) (λ u. sized-more _ (λ r. omega (arith, reason-line r)) value-sized)))
+    (λ u. bind-sized (separator-sized (code "=")) (λ u. sized-more _ (λ r. omega (arith, reason-line r)) value-sized)))
 
 optional-reason-sized : Sized (λ o. length (reasonLine o)) 0 (optional reason)
 optional-reason-sized = optional-sized (λ o. length (reasonLine o)) (unfold reasonLine in refl) (λ r. omega arith) reason-sized
@@ -122,7 +122,7 @@ unfolding methodspec
 methodspec-sized =
     bind-sized keyword-sized
     (λ m. bind-sized (within-sized 0 (optional-within 1 methodVersion method-version-within))
-    (λ v. bind-sized (mark-sized (code "="))
+    (λ v. bind-sized (separator-sized (code "="))
     (λ u. bind-sized keyword-sized
     (λ r. give-sized (record { method = m; version = orOne v; result = r }) (omega arith)))))
 
@@ -222,14 +222,14 @@ resinfos-within =
 none-sized : Sized (λ u. length noneLine) 0 wordNone
 unfolding wordNone
 none-sized =
-    bind-sized (mark-sized (code ";"))
+    bind-sized (separator-sized (code ";"))
     (λ u. bind-sized (within-sized 1 (word-within (bytes "none")))
     (λ u. bind-sized skip-sized (λ u. sized-more _ (λ u. omega (arith, none-line)) (within-sized 0 end-within))))
 
 none-within : Within 0 wordNone
 unfolding wordNone
 none-within =
-    bind-within₂ 0 (mark (code ";")) _ (within-weaker 0 1 (mark (code ";")) (mark-within (code ";")) (omega arith))
+    bind-within₂ 0 (separator (code ";")) _ (within-weaker 0 1 (separator (code ";")) (separator-within (code ";")) (omega arith))
     (λ u. bind-within₂ 0 (readWord (bytes "none")) _ (within-weaker 0 1 (readWord (bytes "none")) (word-within (bytes "none")) (omega arith))
     (λ u. bind-within 0 skip (λ u. end) skip-within (λ u. end-within)))
 

@@ -20,8 +20,8 @@ use Rattle.lexis_rules.specs.Bytes.{lower}
 use Rattle.lexis_rules.specs.Pieces.{item, token, quoted, value, keyword, digits, leading}
 use Rattle.lexis_rules.specs.Words.{quotedText, valueText, keywordText, counted, skip, gap, readValue, readKeyword, readDigits}
 use Rattle.lexis_laws.proofs.Steadiness.{skip-within, gap-within}
-use Rattle.result_rules.specs.Results.{Value, mark, next, readQuoted, inLocalPart, isLocalPart, domain, addressed, address, quotedMailbox, quotedValue, tokenValue, atBehind, propertyValue}
-use Rattle.result_laws.proofs.Following.{mark-within}
+use Rattle.result_rules.specs.Results.{Value, separator, next, readQuoted, inLocalPart, isLocalPart, domain, addressed, address, quotedMailbox, quotedValue, tokenValue, atBehind, propertyValue}
+use Rattle.result_laws.proofs.Following.{separator-within}
 
 -- ==== what a parser yields weighs no more than three times what it takes, and k more
 
@@ -138,8 +138,8 @@ digits-sized = bind-sized (text-sized digits) (λ d. give-sized (counted d) (ome
 pub gap-sized : Sized (λ (u : Unit). 3) 0 gap
 gap-sized = within-sized 1 gap-within
 
-pub mark-sized : (c : ℕ) → Sized (λ (u : Unit). 3) 0 (mark c)
-mark-sized c = within-sized 1 (mark-within c)
+pub separator-sized : (c : ℕ) → Sized (λ (u : Unit). 3) 0 (separator c)
+separator-sized c = within-sized 1 (separator-within c)
 
 pub skip-sized : Sized (λ (u : Unit). 0) 0 skip
 skip-sized = within-sized 0 skip-within

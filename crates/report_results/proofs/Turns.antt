@@ -27,10 +27,10 @@ use Rattle.result_steps.specs.declared.Step.the-variants as step
 use Rattle.result_method.specs.declared.Method.the-variants as method
 use Rattle.result_parts.specs.declared.Reason.the-variants.{Stated, Absent}
 use Rattle.result_values.specs.declared.Value as place
-use Rattle.result_rules.specs.Results.{Property, Methodspec, Result, reason, property, methodspec, unmarked}
+use Rattle.result_rules.specs.Results.{Property, Methodspec, Result, reason, property, methodspec, bareResult}
 use Rattle.result_values.specs.Values.{valueOf}
 use Rattle.base_sequences.specs.Spans.{span}
-use Rattle.result_separators.specs.Marks.{spaced}
+use Rattle.result_separators.specs.Separators.{spaced}
 use Rattle.result_method.specs.Methods.{methodAt}
 use Rattle.result_parts.specs.Parts.{reasonFrom, reasonGot}
 use Rattle.result_steps.specs.Steps.{stepFrom, propertyGot}
@@ -204,7 +204,7 @@ module _ (known : Bool) (p : List ℕ) where
 
 -- where there is no method there is no result
 module _ (s : List ℕ) (a : ℕ) (h : method.Missing ≡ methodAt s a) where
-  none-read : nothing ≡ from unmarked s a
+  none-read : nothing ≡ from bareResult s a
   none-read = stops methodspec _ s a (at-none methodspec s a (method-not s a h))
 
   pub turn-missing : (to : ℕ) → turn.Missing ≡ turnAt s a to
@@ -223,7 +223,7 @@ module _ (s : List ℕ) (a b e : ℕ) (v : VersionNumber) (f g : ℕ) (h : metho
   abbrev whole : Result
   whole = record { methodspec = spec; reason = optionAt reason s g; properties = propertiesAt s g }
 
-  read-whole : got whole (endAt property s (optionEnd reason s g)) ≡ from unmarked s a
+  read-whole : got whole (endAt property s (optionEnd reason s g)) ≡ from bareResult s a
   read-whole =
       let k = optionEnd reason s g in
       let n = endAt property s k in

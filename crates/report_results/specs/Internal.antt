@@ -11,7 +11,7 @@ use Rattle.lexis_rules.specs.declared.VersionNumber.{VersionNumber}
 use Rattle.lexis_rules.specs.Bytes.{lower}
 use Rattle.result_rules.specs.Results.{Property, reason, property}
 use Rattle.result_rules.specs.Table.{listed, tabled, table, ptypes, knownVersion, knownTypes}
-use Rattle.result_separators.specs.Marks.{spaced}
+use Rattle.result_separators.specs.Separators.{spaced}
 use Rattle.report_rules.specs.Report.{reasonLine, propertyLines}
 use Rattle.report_results.specs.declared.Details.{Details}
 use Rattle.report_results.specs.declared.Stated.{Stated}

@@ -14,7 +14,7 @@ ghost use mathlib.Core.Path.{_≡_};
 ghost use mathlib.Core.Bool.{_&&_};
 ghost use lib.Seq.{sets};
 ghost use Rattle.base_sequences.specs.Spans.{span};
-ghost use Rattle.result_separators.specs.Marks.{spaced};
+ghost use Rattle.result_separators.specs.Separators.{spaced};
 ghost use Rattle.report_results.specs.Internal.{knowsType, knowsMethod, PropertiesPut, ReasonPut, DetailsPut};
 ghost use Rattle.report_results.specs.Turns.{turnAt, linesAt};
 
@@ -156,7 +156,7 @@ fn both(a: bool, b: bool) -> bool
     false
 }
 
-// The result at a place, behind its mark, with its lines.
+// The result at a place, behind its separator, with its lines.
 pub fn put_result(s: &[u8], at: usize, out: &mut [u8], to: usize) -> Turn
     ensures { λ r. ⌜ r ≡ turnAt (now (s .entry)) at to ⌝ }
     ensures { λ _. ⌜ now (out .exit) ≡ sets (now (out .entry)) to (linesAt (now (s .entry)) at) ⌝ }

@@ -16,7 +16,7 @@ says n out k = record { number = n; place = 0; ignored = k; written = out }
 abbrev reported : List ℕ → Answer
 reported body = report body 1000
 
--- the samples marked *: number, bytes written, ignored results
+-- the samples separated *: number, bytes written, ignored results
 samples :
     Says reported
     (case (bytes "") (says 7 [] 0)

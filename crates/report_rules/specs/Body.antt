@@ -12,7 +12,7 @@ use Rattle.lexis_rules.specs.Words.{skip, readWord}
 use Rattle.lexis_rules.specs.Numbers.{numberOf, isOne}
 use Rattle.identifier_rules.specs.Identifier.{identifier}
 use Rattle.identifier_rules.specs.Version.{stated, headerVersion}
-use Rattle.result_rules.specs.Results.{Result, mark, result}
+use Rattle.result_rules.specs.Results.{Result, separator, result}
 
 -- ==== what a body says
 
@@ -59,7 +59,7 @@ resinfos = do
 -- ";" and the word none, .. and the end
 unfoldable pub wordNone : Parser Unit
 wordNone = do
-  mark (code ";")
+  separator (code ";")
   readWord (bytes "none")
   skip
   end

@@ -1,4 +1,4 @@
--- What comes next, said by its byte: which bytes end a run or begin no space, a mark with the space around it, and what ends a result.
+-- What comes next, said by its byte: which bytes end a run or begin no space, a separator with the space around it, and what ends a result.
 -- Each law is by a computed test of a short list of bytes.
 use Prim.Native.Char.{code}
 use Prim.Native.Nat.{ℕ, zero, suc}
@@ -25,7 +25,7 @@ use Rattle.lexis_rules.specs.Pieces.{space}
 use Rattle.lexis_rules.specs.Words.{skip, gap}
 use Rattle.lexis_laws.proofs.Locality.{space-none}
 use Rattle.lexis_laws.proofs.Steadiness.{space-first, skip-within, skip-steady, gap-opens}
-use Rattle.result_rules.specs.Results.{mark}
+use Rattle.result_rules.specs.Results.{separator}
 
 -- ==== bytes
 
@@ -71,41 +71,41 @@ shut-out {A} p c O xs s = go (p xs) refl
     go nothing e = e
     go (got a n) e = absurd (both (starts c xs) s (O xs a n e))
 
--- ==== a mark with space on both sides
+-- ==== a separator with space on both sides
 
 module _ (c : ℕ) where
-  pub mark-within : Within 1 (mark c)
-  unfolding mark
-  mark-within = bind-within₂ 1 skip (λ u. _>>_ (byte c) skip) skip-within (λ u. bind-within 1 (byte c) (λ v. skip) (byte-within c) (λ v. skip-within))
+  pub separator-within : Within 1 (separator c)
+  unfolding separator
+  separator-within = bind-within₂ 1 skip (λ u. _>>_ (byte c) skip) skip-within (λ u. bind-within 1 (byte c) (λ v. skip) (byte-within c) (λ v. skip-within))
 
-  pub mark-steady : all (outside (λ b. eqb b c)) (bytes " \t\r(") ≡ true → Steady (mark c) (Ends space)
-  unfolding mark
-  mark-steady h =
+  pub separator-steady : all (outside (λ b. eqb b c)) (bytes " \t\r(") ≡ true → Steady (separator c) (Ends space)
+  unfolding separator
+  separator-steady h =
       then-steady skip (λ u. _>>_ (byte c) skip) (Ends space) (Ends space) skip-steady
       (λ u. then-steady (byte c) (λ v. skip) Any (Ends space) (byte-steady c) (λ v. skip-steady) (λ v xs a n e. tt))
       (λ u. bind-opens (byte c) (λ v. skip) (Ends space) (byte-opens c (Ends space) (solid (λ b. eqb b c) h)))
 
-  -- the mark, or a byte that can begin a space
-  abbrev pub Marked : List ℕ → Type 0
-  Marked = Starts (oneOf (c ∷ bytes " \t\r("))
+  -- the separator, or a byte that can begin a space
+  abbrev pub Separated : List ℕ → Type 0
+  Separated = Starts (oneOf (c ∷ bytes " \t\r("))
 
-  pub mark-opens : Opens (mark c) Marked
-  unfolding mark oneOf inClass
-  mark-opens =
-      skipping-opens space (_>>_ (byte c) skip) Marked
+  pub separator-opens : Opens (separator c) Separated
+  unfolding separator oneOf inClass
+  separator-opens =
+      skipping-opens space (_>>_ (byte c) skip) Separated
       (λ xs n e. starts-weaker (inClass Opening) (oneOf (c ∷ bytes " \t\r(")) (λ b i. or-right (eqb b c) (oneOf (bytes " \t\r(") b) i) xs (space-first xs n e))
-      (bind-opens (byte c) (λ v. skip) Marked
-      (byte-opens c Marked (starts-weaker (λ b. eqb b c) (oneOf (c ∷ bytes " \t\r(")) (λ b i. or-left (eqb b c) (oneOf (bytes " \t\r(") b) i))))
+      (bind-opens (byte c) (λ v. skip) Separated
+      (byte-opens c Separated (starts-weaker (λ b. eqb b c) (oneOf (c ∷ bytes " \t\r(")) (λ b i. or-left (eqb b c) (oneOf (bytes " \t\r(") b) i))))
 
   -- so a run of a class without these bytes ends before it
-  pub mark-ends : {B : Type 0} (q : Parser B) (d : ℕ → Bool) → all (outside d) (c ∷ bytes " \t\r(") ≡ true → Opens (_>>_ (mark c) q) (Ends (run d))
-  mark-ends q d h =
-      bind-opens (mark c) (λ u. q) (Ends (run d)) (opens-weaker (mark c) Marked (Ends (run d)) (listed-ends (c ∷ bytes " \t\r(") d h) mark-opens)
+  pub separator-ends : {B : Type 0} (q : Parser B) (d : ℕ → Bool) → all (outside d) (c ∷ bytes " \t\r(") ≡ true → Opens (_>>_ (separator c) q) (Ends (run d))
+  separator-ends q d h =
+      bind-opens (separator c) (λ u. q) (Ends (run d)) (opens-weaker (separator c) Separated (Ends (run d)) (listed-ends (c ∷ bytes " \t\r(") d h) separator-opens)
 
-  -- where one mark is, another is not
-  pub mark-other : (d : ℕ) → eqb c d ≡ false → (xs : List ℕ) (u : Unit {0}) (n : ℕ) → mark c xs ≡ got u n → mark d xs ≡ nothing
-  unfolding mark
-  mark-other d o xs u n h =
+  -- where one separator is, another is not
+  pub separator-other : (d : ℕ) → eqb c d ≡ false → (xs : List ℕ) (u : Unit {0}) (n : ℕ) → separator c xs ≡ got u n → separator d xs ≡ nothing
+  unfolding separator
+  separator-other d o xs u n h =
       let v = bind-inv skip (λ u. _>>_ (byte c) skip) xs u n h in
       let ys = drop (v .fst) xs in
       let w = bind-inv (byte c) (λ v. skip) ys u (v .snd) (v .goes) in

@@ -23,9 +23,9 @@ use Rattle.lexis_rules.specs.Bytes.{inClass}
 use Rattle.lexis_rules.specs.Pieces.{space, token, digits}
 use Rattle.lexis_rules.specs.Words.{skip, gap, readValue, readKeyword, readWord, readNumber}
 use Rattle.lexis_laws.proofs.Steadiness.{skip-within, skip-steady, gap-within, gap-steady, opensValue, value-within, value-opens, value-steady, keyword-within, keyword-opens, keyword-steady, word-within, word-opens, word-steady, number-within, number-opens, number-steady}
-use Rattle.result_rules.specs.Results.{Value, Property, Methodspec, Result, mark, orOne, propertyValue, methodVersion, methodspec, reason, property, result}
+use Rattle.result_rules.specs.Results.{Value, Property, Methodspec, Result, separator, orOne, propertyValue, methodVersion, methodspec, reason, property, result}
 use Rattle.result_rules.proofs.Opened.{opened}
-use Rattle.result_laws.proofs.Following.{Delimited, Closed, solid, delimited-ends, gap-delimited, mark-within, mark-steady, mark-ends, mark-other, closed-delimited, closed-gap}
+use Rattle.result_laws.proofs.Following.{Delimited, Closed, solid, delimited-ends, gap-delimited, separator-within, separator-steady, separator-ends, separator-other, closed-delimited, closed-gap}
 use Rattle.result_laws.proofs.Values.{property-value-within, property-value-opens, property-value-steady}
 
 -- no byte of a keyword comes next
@@ -48,35 +48,35 @@ word-solid : (w : List ℕ) → Opens (readWord w) (Ends space)
 unfolding opened
 word-solid w = opens-weaker (readWord w) (Starts (inClass Keyword)) (Ends space) (solid (inClass Keyword) refl) (word-opens w)
 
-mark-whole : {B : Type 0} (q : Parser B) → Opens (_>>_ (mark 61) q) Whole
+separator-whole : {B : Type 0} (q : Parser B) → Opens (_>>_ (separator 61) q) Whole
 unfolding opened
-mark-whole q = mark-ends 61 q (inClass Keyword) refl
+separator-whole q = separator-ends 61 q (inClass Keyword) refl
 
 -- ==== method, version and result
 
 pub method-version-within : Within 1 methodVersion
 unfolding methodVersion
-method-version-within = bind-within 1 (mark 47) (λ u. readNumber) (mark-within 47) (λ u. within-weaker 0 1 readNumber number-within (omega arith))
+method-version-within = bind-within 1 (separator 47) (λ u. readNumber) (separator-within 47) (λ u. within-weaker 0 1 readNumber number-within (omega arith))
 
 method-version-opens : Opens methodVersion Whole
 unfolding methodVersion opened
-method-version-opens = mark-ends 47 readNumber (inClass Keyword) refl
+method-version-opens = separator-ends 47 readNumber (inClass Keyword) refl
 
 pub method-version-steady : Steady methodVersion (Ends digits)
 unfolding methodVersion opened
 method-version-steady =
-    then-steady (mark 47) (λ u. readNumber) (Ends space) (Ends digits) (mark-steady 47 refl) (λ u. number-steady)
+    then-steady (separator 47) (λ u. readNumber) (Ends space) (Ends digits) (separator-steady 47 refl) (λ u. number-steady)
     (λ u. opens-weaker readNumber (Starts (inClass Digit)) (Ends space) (solid (inClass Digit) refl) number-opens)
 
 -- "=" ends a digit run, and is no version
-equals-no-version : {B : Type 0} (q : Parser B) → Opens (_>>_ (mark 61) q) (λ t. Ends digits t × (methodVersion t ≡ nothing))
+equals-no-version : {B : Type 0} (q : Parser B) → Opens (_>>_ (separator 61) q) (λ t. Ends digits t × (methodVersion t ≡ nothing))
 unfolding methodVersion
 equals-no-version q xs b n h =
-    let v = bind-inv (mark 61) (λ u. q) xs b n h in
-    (ends xs b n h, bind-none (mark 47) (λ u. readNumber) xs (mark-other 61 47 refl xs (v .val) (v .fst) (v .reads)))
+    let v = bind-inv (separator 61) (λ u. q) xs b n h in
+    (ends xs b n h, bind-none (separator 47) (λ u. readNumber) xs (separator-other 61 47 refl xs (v .val) (v .fst) (v .reads)))
   where
-    ends : Opens (_>>_ (mark 61) q) (Ends digits)
-    ends = unfold opened in mark-ends 61 q (inClass Digit) refl
+    ends : Opens (_>>_ (separator 61) q) (Ends digits)
+    ends = unfold opened in separator-ends 61 q (inClass Digit) refl
 
 module _ (m : List ℕ) where
   abbrev specified : Option VersionNumber → List ℕ → Methodspec
@@ -87,18 +87,18 @@ module _ (m : List ℕ) where
   Keyworded v = _>>=_ readKeyword (λ r. give (specified v r))
 
   abbrev Equalled : Option VersionNumber → Parser Methodspec
-  Equalled v = _>>_ (mark 61) (Keyworded v)
+  Equalled v = _>>_ (separator 61) (Keyworded v)
 
   equalled-within : (v : Option VersionNumber) → Within 0 (Equalled v)
   equalled-within v =
       within-weaker 0 1 (Equalled v)
-      (bind-within 1 (mark 61) (λ u. Keyworded v) (mark-within 61)
+      (bind-within 1 (separator 61) (λ u. Keyworded v) (separator-within 61)
       (λ u. within-weaker 0 1 (Keyworded v) (bind-within 1 readKeyword (λ r. give (specified v r)) keyword-within (λ r. give-within (specified v r))) (omega arith)))
       (omega arith)
 
   equalled-steady : (v : Option VersionNumber) → Steady (Equalled v) Whole
   equalled-steady v =
-      then-steady (mark 61) (λ u. Keyworded v) (Ends space) Whole (mark-steady 61 refl) (λ u. map-steady readKeyword (specified v) Whole keyword-steady)
+      then-steady (separator 61) (λ u. Keyworded v) (Ends space) Whole (separator-steady 61 refl) (λ u. map-steady readKeyword (specified v) Whole keyword-steady)
       (λ u. bind-opens readKeyword (λ r. give (specified v r)) (Ends space) keyword-solid)
 
   versioned-steady : Steady (_>>=_ (optional methodVersion) Equalled) Whole
@@ -107,7 +107,7 @@ module _ (m : List ℕ) where
       (optional-steady methodVersion (Ends digits) method-version-steady) equalled-steady (λ v. equals-no-version (Keyworded v))
 
   versioned-whole : Opens (_>>=_ (optional methodVersion) Equalled) Whole
-  versioned-whole = optional-opens methodVersion Equalled Whole method-version-opens (λ v. mark-whole (Keyworded v))
+  versioned-whole = optional-opens methodVersion Equalled Whole method-version-opens (λ v. separator-whole (Keyworded v))
 
 pub methodspec-within : Within 1 methodspec
 unfolding methodspec
@@ -130,7 +130,7 @@ unfolding reason
 reason-within =
     bind-within 1 gap _ gap-within
     (λ u. bind-within 0 (readWord (bytes "reason")) _ (within-weaker 0 1 (readWord (bytes "reason")) (word-within (bytes "reason")) (omega arith))
-    (λ u. bind-within 0 (mark 61) (λ u. readValue) (within-weaker 0 1 (mark 61) (mark-within 61) (omega arith))
+    (λ u. bind-within 0 (separator 61) (λ u. readValue) (within-weaker 0 1 (separator 61) (separator-within 61) (omega arith))
     (λ u. within-weaker 0 1 readValue value-within (omega arith))))
 
 pub reason-opens : Opens reason Delimited
@@ -142,44 +142,44 @@ unfolding reason
 reason-steady =
     then-steady gap _ (Ends space) Delimited gap-steady
     (λ u. then-steady (readWord (bytes "reason")) _ Whole Delimited (word-steady (bytes "reason"))
-    (λ u. then-steady (mark 61) (λ u. readValue) (Ends space) Delimited (mark-steady 61 refl)
+    (λ u. then-steady (separator 61) (λ u. readValue) (Ends space) Delimited (separator-steady 61 refl)
     (λ u. value-delimited) (λ u. value-solid))
-    (λ u. mark-whole readValue))
+    (λ u. separator-whole readValue))
     (λ u. bind-opens (readWord (bytes "reason")) _ (Ends space) (word-solid (bytes "reason")))
 
 module _ (t p : List ℕ) where
   abbrev proper : Value → Property
   proper v = record { ptype = t; property = p; value = v }
 
-  -- from the second mark on
+  -- from the second separator on
   abbrev Valued : Parser Property
-  Valued = _>>_ (mark 61) (_>>=_ propertyValue (λ v. give (proper v)))
+  Valued = _>>_ (separator 61) (_>>=_ propertyValue (λ v. give (proper v)))
 
   valued-within : Within 0 Valued
   valued-within =
-      bind-within 0 (mark 61) (λ u. _>>=_ propertyValue (λ v. give (proper v))) (within-weaker 0 1 (mark 61) (mark-within 61) (omega arith))
+      bind-within 0 (separator 61) (λ u. _>>=_ propertyValue (λ v. give (proper v))) (within-weaker 0 1 (separator 61) (separator-within 61) (omega arith))
       (λ u. bind-within 0 propertyValue (λ v. give (proper v)) property-value-within (λ v. give-within (proper v)))
 
   valued-steady : Steady Valued Delimited
   valued-steady =
-      then-steady (mark 61) (λ u. _>>=_ propertyValue (λ v. give (proper v))) (Ends space) Delimited (mark-steady 61 refl)
+      then-steady (separator 61) (λ u. _>>=_ propertyValue (λ v. give (proper v))) (Ends space) Delimited (separator-steady 61 refl)
       (λ u. map-steady propertyValue proper Delimited property-value-steady)
       (λ u. bind-opens propertyValue (λ v. give (proper v)) (Ends space) property-value-opens)
 
 module _ (t : List ℕ) where
-  -- from the first mark on
+  -- from the first separator on
   abbrev Named : Parser Property
-  Named = _>>_ (mark 46) (_>>=_ readKeyword (Valued t))
+  Named = _>>_ (separator 46) (_>>=_ readKeyword (Valued t))
 
   named-within : Within 0 Named
   named-within =
-      bind-within 0 (mark 46) (λ u. _>>=_ readKeyword (Valued t)) (within-weaker 0 1 (mark 46) (mark-within 46) (omega arith))
+      bind-within 0 (separator 46) (λ u. _>>=_ readKeyword (Valued t)) (within-weaker 0 1 (separator 46) (separator-within 46) (omega arith))
       (λ u. bind-within 0 readKeyword (Valued t) (within-weaker 0 1 readKeyword keyword-within (omega arith)) (valued-within t))
 
   named-steady : Steady Named Delimited
   named-steady =
-      then-steady (mark 46) (λ u. _>>=_ readKeyword (Valued t)) (Ends space) Delimited (mark-steady 46 refl)
-      (λ u. then-steady readKeyword (Valued t) Whole Delimited keyword-steady (valued-steady t) (λ p. mark-whole _))
+      then-steady (separator 46) (λ u. _>>=_ readKeyword (Valued t)) (Ends space) Delimited (separator-steady 46 refl)
+      (λ u. then-steady readKeyword (Valued t) Whole Delimited keyword-steady (valued-steady t) (λ p. separator-whole _))
       (λ u. bind-opens readKeyword (Valued t) (Ends space) keyword-solid)
 
 pub property-within : Within 1 property
@@ -199,7 +199,7 @@ property-steady =
     (λ u. bind-opens readKeyword Named (Ends space) keyword-solid)
   where
     named-whole : (t : List ℕ) → Opens (Named t) Whole
-    named-whole t = unfold opened in mark-ends 46 (_>>=_ readKeyword (Valued t)) (inClass Keyword) refl
+    named-whole t = unfold opened in separator-ends 46 (_>>=_ readKeyword (Valued t)) (inClass Keyword) refl
 
 -- ==== a property is no reason, and neither stands where a result ends
 
@@ -225,10 +225,10 @@ property-no-reason xs a n h =
     let v = bind-inv gap _ xs a n h in
     let ys = drop (v .fst) xs in
     let w = bind-inv readKeyword Named ys a (v .snd) (v .goes) in
-    let m = bind-inv (mark 46) (λ u. _>>=_ readKeyword (Valued (w .val))) (drop (w .fst) ys) a (w .snd) (w .goes) in
+    let m = bind-inv (separator 46) (λ u. _>>=_ readKeyword (Valued (w .val))) (drop (w .fst) ys) a (w .snd) (w .goes) in
     bind-stuck gap _ xs (v .val) (v .fst) (v .reads)
     (word-then-not (bytes "reason") _ ys (w .val) (w .fst) (w .reads)
-    (bind-none (mark 61) (λ u. readValue) (drop (w .fst) ys) (mark-other 46 61 refl (drop (w .fst) ys) (m .val) (m .fst) (m .reads))))
+    (bind-none (separator 61) (λ u. readValue) (drop (w .fst) ys) (separator-other 46 61 refl (drop (w .fst) ys) (m .val) (m .fst) (m .reads))))
 
 keyword-open : inClass Keyword 59 ≡ false
 unfolding opened

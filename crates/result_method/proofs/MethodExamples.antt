@@ -9,12 +9,12 @@ use Rattle.lexis_rules.specs.declared.VersionNumber.{VersionNumber}
 use Rattle.lexis_rules.specs.declared.VersionNumber.the-variants.{Exact, Large}
 use Rattle.result_method.specs.declared.Method.the-variants.{Read, Missing}
 use Rattle.result_rules.specs.Results.{Methodspec, methodspec}
-use Rattle.result_separators.specs.Marks.{marked, past}
+use Rattle.result_separators.specs.Separators.{separated, past}
 use Rattle.result_method.specs.Methods.{methodVersionAt, resultAt, methodAt, methodGot}
 use Rattle.result_rules.proofs.Opened as definitions
 
 unfoldable opened : Unit {0}
-unfolding definitions.opened marked past methodVersionAt resultAt methodAt
+unfolding definitions.opened separated past methodVersionAt resultAt methodAt
 opened = tt
 
 -- method, the number of its version, result, and how many bytes they take

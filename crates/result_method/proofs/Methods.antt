@@ -18,17 +18,17 @@ use Rattle.lexis_laws.proofs.VersionNumbers.{number-text}
 use Rattle.result_method.specs.declared.MethodVersion.{MethodVersion}
 use Rattle.result_method.specs.declared.Method.{Method}
 use Rattle.result_method.specs.declared.Method.the-variants.{Read, Missing}
-use Rattle.result_rules.specs.Results.{Methodspec, mark, orOne, methodVersion, methodspec}
-use Rattle.result_separators.specs.Marks.{spaced, marked, markedFrom, behind}
+use Rattle.result_rules.specs.Results.{Methodspec, separator, orOne, methodVersion, methodspec}
+use Rattle.result_separators.specs.Separators.{spaced, separated, separatedFrom, behind}
 use Rattle.result_method.specs.Methods.{versionTo, unversioned, methodVersionAt, resultAt, methodAt, methodGot}
 use Rattle.base_sequences.specs.Spans.{span}
-use Rattle.result_separators.proofs.Marks.{mark-found, behind-none, behind-some, all-behind, through, mark-reads, keyword-reads}
+use Rattle.result_separators.proofs.Separators.{separator-found, behind-none, behind-some, all-behind, through, separator-reads, keyword-reads}
 
 -- ==== the version, by the tests of the code
 
-module _ (s : List ℕ) (at g : ℕ) (y : g ≡ spaced s at) (a : ℕ) (x : a ≡ markedFrom 47 s at g) where
-  q : a ≡ at + marked 47 (drop at s)
-  q = mark-found s at g 47 y a x
+module _ (s : List ℕ) (at g : ℕ) (y : g ≡ spaced s at) (a : ℕ) (x : a ≡ separatedFrom 47 s at g) where
+  q : a ≡ at + separated 47 (drop at s)
+  q = separator-found s at g 47 y a x
 
   -- nothing is taken, and the space behind the method is known to end at g
   absent : record { end = at; gap = g; number = one } ≡ unversioned s at
@@ -36,12 +36,12 @@ module _ (s : List ℕ) (at g : ℕ) (y : g ≡ spaced s at) (a : ℕ) (x : a �
 
   pub version-no-slash : a ≡ at → _≡_ {A = MethodVersion} (record { end = at; gap = g; number = one }) (methodVersionAt s at)
   unfolding methodVersionAt
-  version-no-slash z = absent ∙ sym (behind-none (marked 47) s at a q (unversioned s at) _ z)
+  version-no-slash z = absent ∙ sym (behind-none (separated 47) s at a q (unversioned s at) _ z)
 
   module _ (ne : a ≡ at → ⊥) (d : Digits) (h : d ≡ digitsAt s a) where
     from-digits : methodVersionAt s at ≡ behind digits s a (unversioned s at) (λ e. versionTo s e (numberOf (drop a s)))
     unfolding methodVersionAt
-    from-digits = behind-some (marked 47) s at a q (unversioned s at) _ ne
+    from-digits = behind-some (separated 47) s at a q (unversioned s at) _ ne
 
     ends : d .end ≡ a + digits (drop a s)
     unfolding digitsAt
@@ -62,7 +62,7 @@ module _ (s : List ℕ) (at g : ℕ) (y : g ≡ spaced s at) (a : ℕ) (x : a �
 version-gap : (s : List ℕ) (at : ℕ) → methodVersionAt s at .gap ≡ spaced s (methodVersionAt s at .end)
 unfolding methodVersionAt
 version-gap s at =
-    all-behind Spaced (marked 47) s at (unversioned s at) _ refl (λ a q l. all-behind Spaced digits s a (unversioned s at) _ refl (λ e p m. refl))
+    all-behind Spaced (separated 47) s at (unversioned s at) _ refl (λ a q l. all-behind Spaced digits s a (unversioned s at) _ refl (λ e p m. refl))
   where
     Spaced : MethodVersion → Type 0
     Spaced v = v .gap ≡ spaced s (v .end)
@@ -74,9 +74,9 @@ module _ (s : List ℕ) (at e : ℕ) (q : e ≡ at + keyword (drop at s)) where
   unfolding methodAt
   method-no-name z = sym (behind-none keyword s at e q Missing _ z)
 
-  module _ (ne : e ≡ at → ⊥) (v : MethodVersion) (h : v ≡ methodVersionAt s e) (f : ℕ) (x : f ≡ markedFrom 61 s (v .end) (v .gap)) where
-    p : f ≡ v .end + marked 61 (drop (v .end) s)
-    p = mark-found s (v .end) (v .gap) 61 (rw h (version-gap s e)) f x
+  module _ (ne : e ≡ at → ⊥) (v : MethodVersion) (h : v ≡ methodVersionAt s e) (f : ℕ) (x : f ≡ separatedFrom 61 s (v .end) (v .gap)) where
+    p : f ≡ v .end + separated 61 (drop (v .end) s)
+    p = separator-found s (v .end) (v .gap) 61 (rw h (version-gap s e)) f x
 
     from-equals : methodAt s at ≡ resultAt s at e v
     unfolding methodAt
@@ -84,12 +84,12 @@ module _ (s : List ℕ) (at e : ℕ) (q : e ≡ at + keyword (drop at s)) where
 
     pub method-no-equals : f ≡ v .end → Missing ≡ methodAt s at
     unfolding resultAt
-    method-no-equals z = sym (from-equals ∙ behind-none (marked 61) s (v .end) f p Missing _ z)
+    method-no-equals z = sym (from-equals ∙ behind-none (separated 61) s (v .end) f p Missing _ z)
 
     module _ (nf : f ≡ v .end → ⊥) (g : ℕ) (w : g ≡ f + keyword (drop f s)) where
       from-result : methodAt s at ≡ behind keyword s f Missing (λ g. Read at e (v .number) f g)
       unfolding resultAt
-      from-result = from-equals ∙ behind-some (marked 61) s (v .end) f p Missing _ nf
+      from-result = from-equals ∙ behind-some (separated 61) s (v .end) f p Missing _ nf
 
       pub method-no-result : g ≡ f → Missing ≡ methodAt s at
       method-no-result z = sym (from-result ∙ behind-none keyword s f g w Missing _ z)
@@ -112,32 +112,32 @@ module _ (s : List ℕ) (at : ℕ) where
 
   versioned : Versioned s at (methodVersionAt s at)
   unfolding methodVersionAt methodVersion readNumber orOne
-  versioned = slash (marked 47 (drop at s)) refl
+  versioned = slash (separated 47 (drop at s)) refl
     where
-      run : (m n : ℕ) → marked 47 (drop at s) ≡ suc m → digits (drop (at + suc m) s) ≡ n → Versioned s at (methodVersionAt s at)
+      run : (m n : ℕ) → separated 47 (drop at s) ≡ suc m → digits (drop (at + suc m) s) ≡ n → Versioned s at (methodVersionAt s at)
       run m zero z d =
           let a = at + suc m in
           let ne : a ≡ at → ⊥ = λ i. omega arith in
           let r : nothing ≡ from readNumber s a = stops (text digits) _ s a (text-none digits s a a (omega arith) refl) in
-          let v : methodVersionAt s at ≡ unversioned s at = behind-some (marked 47) s at a (omega arith) (unversioned s at) _ ne ∙ behind-none digits s a a (omega arith) (unversioned s at) _ refl in
-          rw v (unstated (goes-on (mark 47) _ s at tt a nothing (mark-reads s at 47 .there a (omega arith) ne) r))
+          let v : methodVersionAt s at ≡ unversioned s at = behind-some (separated 47) s at a (omega arith) (unversioned s at) _ ne ∙ behind-none digits s a a (omega arith) (unversioned s at) _ refl in
+          rw v (unstated (goes-on (separator 47) _ s at tt a nothing (separator-reads s at 47 .there a (omega arith) ne) r))
       run m (suc n) z d =
           let a = at + suc m in
           let e = a + suc n in
           let ne : a ≡ at → ⊥ = λ i. omega arith in
           let nd : e ≡ a → ⊥ = λ i. omega arith in
           let j : e - a ≡ suc n = omega arith in
-          let v : methodVersionAt s at ≡ versionTo s e (numberOf (drop a s)) = behind-some (marked 47) s at a (omega arith) (unversioned s at) _ ne ∙ behind-some digits s a e (omega arith) (unversioned s at) _ nd in
+          let v : methodVersionAt s at ≡ versionTo s e (numberOf (drop a s)) = behind-some (separated 47) s at a (omega arith) (unversioned s at) _ ne ∙ behind-some digits s a e (omega arith) (unversioned s at) _ nd in
           let r : got (numberOf (span s a e)) e ≡ from readNumber s a =
           goes-on (text digits) _ s a (span s a e) e _ (text-at digits s a e (omega arith) nd) (gives (numberOf (span s a e)) s e) in
-          let w : got (numberOf (span s a e)) e ≡ from methodVersion s at = goes-on (mark 47) _ s at tt a _ (mark-reads s at 47 .there a (omega arith) ne) r in
+          let w : got (numberOf (span s a e)) e ≡ from methodVersion s at = goes-on (separator 47) _ s at tt a _ (separator-reads s at 47 .there a (omega arith) ne) r in
           let o : numberOf (span s a e) ≡ numberOf (drop a s) = rw j (number-text (drop a s) (suc n) d) in
           rw v (record { stated = some (numberOf (span s a e)); reads = one-more methodVersion s at (numberOf (span s a e)) e w; is = o })
 
-      slash : (m : ℕ) → marked 47 (drop at s) ≡ m → Versioned s at (methodVersionAt s at)
+      slash : (m : ℕ) → separated 47 (drop at s) ≡ m → Versioned s at (methodVersionAt s at)
       slash zero z =
-          let v : methodVersionAt s at ≡ unversioned s at = behind-none (marked 47) s at at (omega arith) (unversioned s at) _ refl in
-          rw v (unstated (stops (mark 47) _ s at (mark-reads s at 47 .missing at (omega arith) refl)))
+          let v : methodVersionAt s at ≡ unversioned s at = behind-none (separated 47) s at at (omega arith) (unversioned s at) _ refl in
+          rw v (unstated (stops (separator 47) _ s at (separator-reads s at 47 .missing at (omega arith) refl)))
       slash (suc m) z = run m (digits (drop (at + suc m) s)) z refl
 
 module _ (s : List ℕ) where
@@ -147,13 +147,13 @@ module _ (s : List ℕ) where
 
   -- from "=" on
   abbrev equalled : List ℕ → Option VersionNumber → Parser Methodspec
-  equalled m v = _>>_ (mark 61) (_>>=_ readKeyword (λ r. give (record { method = m; version = orOne v; result = r })))
+  equalled m v = _>>_ (separator 61) (_>>=_ readKeyword (λ r. give (record { method = m; version = orOne v; result = r })))
 
   result-stands : (at e : ℕ) (v : MethodVersion) (d : Option VersionNumber) → orOne d ≡ v .number
       → Stands (resultAt s at e v) (from (equalled (keywordText (span s at e)) d) s (v .end))
   unfolding resultAt
   result-stands at e v d o =
-      through Stands (marked 61) (mark 61) s (v .end) _ (mark-reads s (v .end) 61) Missing _ _ refl
+      through Stands (separated 61) (separator 61) s (v .end) _ (separator-reads s (v .end) 61) Missing _ _ refl
       (λ f. through Stands keyword readKeyword s f _ (keyword-reads s f) Missing _ _ refl
       (λ g. let x : Methodspec = record { method = keywordText (span s at e); version = orOne d; result = keywordText (span s f g) } in
       let y : Stands (Read at e (v .number) f g) (got x g) = ap (λ (n : VersionNumber). got (record { method = keywordText (span s at e); version = n; result = keywordText (span s f g) }) g) (sym o) in

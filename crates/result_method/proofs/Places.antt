@@ -11,14 +11,14 @@ use Rattle.lexis_laws.proofs.Pieces.{keyword-fits}
 use Rattle.result_method.specs.declared.MethodVersion.{MethodVersion}
 use Rattle.result_method.specs.declared.Method.{Method}
 use Rattle.result_method.specs.declared.Method.the-variants.{Read, Missing}
-use Rattle.result_separators.specs.Marks.{marked}
+use Rattle.result_separators.specs.Separators.{separated}
 use Rattle.result_method.specs.Methods.{unversioned, methodVersionAt, resultAt, methodAt}
-use Rattle.result_separators.proofs.Marks.{all-behind, ends-inside}
+use Rattle.result_separators.proofs.Separators.{all-behind, ends-inside}
 
 version-onward : (s : List ℕ) (at : ℕ) → at ≤ methodVersionAt s at .end
 unfolding methodVersionAt
 version-onward s at =
-    all-behind Onward (marked 47) s at (unversioned s at) _ (omega arith)
+    all-behind Onward (separated 47) s at (unversioned s at) _ (omega arith)
     (λ a q l. all-behind Onward digits s a (unversioned s at) _ (omega arith) (λ e p m. omega arith))
   where
     Onward : MethodVersion → Type 0
@@ -41,7 +41,7 @@ module _ (s : List ℕ) (at : ℕ) where
   unfolding methodAt resultAt
   method-stands =
       all-behind (MethodStands s at) keyword s at Missing _ tt
-      (λ e p m. all-behind (MethodStands s at) (marked 61) s (methodVersionAt s e .end) Missing _ tt
+      (λ e p m. all-behind (MethodStands s at) (separated 61) s (methodVersionAt s e .end) Missing _ tt
       (λ f q n. all-behind (MethodStands s at) keyword s f Missing _ tt
       (λ g r l. record {
         start = refl;

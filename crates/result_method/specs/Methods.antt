@@ -12,7 +12,7 @@ use Rattle.result_method.specs.declared.MethodVersion.{MethodVersion}
 use Rattle.result_method.specs.declared.Method.{Method}
 use Rattle.result_method.specs.declared.Method.the-variants.{Read, Missing}
 use Rattle.result_rules.specs.Results.{Methodspec}
-use Rattle.result_separators.specs.Marks.{spaced, marked, behind}
+use Rattle.result_separators.specs.Separators.{spaced, separated, behind}
 use Rattle.base_sequences.specs.Spans.{span}
 
 -- a version that ends at a place, with its number
@@ -26,12 +26,12 @@ unversioned s at = versionTo s at one
 -- "/" and a digit run, if they can be read: the place after it, and its number
 unfoldable pub methodVersionAt : List ℕ → ℕ → MethodVersion
 methodVersionAt s at =
-    behind (marked (code "/")) s at (unversioned s at) (λ a. behind digits s a (unversioned s at) (λ e. versionTo s e (numberOf (drop a s))))
+    behind (separated (code "/")) s at (unversioned s at) (λ a. behind digits s a (unversioned s at) (λ e. versionTo s e (numberOf (drop a s))))
 
 -- "=" at a place and a result keyword, behind a method from a up to e
 unfoldable pub resultAt : List ℕ → ℕ → ℕ → MethodVersion → Method
 resultAt s a e v =
-    behind (marked (code "=")) s (v .end) Missing (λ f. behind keyword s f Missing (λ g. Read a e (v .number) f g))
+    behind (separated (code "=")) s (v .end) Missing (λ f. behind keyword s f Missing (λ g. Read a e (v .number) f g))
 
 unfoldable pub methodAt : List ℕ → ℕ → Method
 methodAt s at = behind keyword s at Missing (λ e. resultAt s at e (methodVersionAt s e))

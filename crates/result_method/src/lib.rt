@@ -15,7 +15,7 @@ fn method_version_at(s: &[u8], at: usize) -> MethodVersion
     ensures { λ r. ⌜ r ≡ methodVersionAt (now (s .entry)) at ⌝ }
 {
     let gap = lexis_space::space_end(s, at);
-    let a = result_separators::mark_from(s, at, gap, b'/');
+    let a = result_separators::separator_from(s, at, gap, b'/');
     if a == at {
         return MethodVersion {
             end: at,
@@ -60,7 +60,7 @@ pub fn method_at(s: &[u8], at: usize) -> Method
         return Method::Missing;
     }
     let versioned = method_version_at(s, end);
-    let result_start = result_separators::mark_from(s, versioned.end, versioned.gap, b'=');
+    let result_start = result_separators::separator_from(s, versioned.end, versioned.gap, b'=');
     if result_start == versioned.end {
         return Method::Missing;
     }

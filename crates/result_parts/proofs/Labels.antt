@@ -13,11 +13,11 @@ use Rattle.lexis_rules.specs.Pieces.{space, keyword}
 use Rattle.lexis_rules.specs.Words.{keywordText, gap, readKeyword}
 use Rattle.result_parts.specs.declared.Label.{Label}
 use Rattle.result_parts.specs.declared.Label.the-variants.{Read, Missing}
-use Rattle.result_rules.specs.Results.{Property, mark, propertyValue, property}
-use Rattle.result_separators.specs.Marks.{marked, behind}
+use Rattle.result_rules.specs.Results.{Property, separator, propertyValue, property}
+use Rattle.result_separators.specs.Separators.{separated, behind}
 use Rattle.result_parts.specs.Parts.{Names, names, namesAt, labelFrom, labelAt, labelGot}
 use Rattle.base_sequences.specs.Spans.{span}
-use Rattle.result_separators.proofs.Marks.{past-none, past-some, behind-none, behind-some, through, gap-reads, mark-reads, keyword-reads}
+use Rattle.result_separators.proofs.Separators.{past-none, past-some, behind-none, behind-some, through, gap-reads, separator-reads, keyword-reads}
 
 -- ==== by the tests of the code
 
@@ -34,31 +34,31 @@ module _ (s : List ℕ) (at a : ℕ) where
     pub label-no-type : e ≡ a → Missing ≡ labelFrom s at a
     label-no-type z = sym (from-type ∙ behind-none keyword s a e p Missing _ z)
 
-    module _ (ne : e ≡ a → ⊥) (b : ℕ) (m : b ≡ e + marked 46 (drop e s)) where
+    module _ (ne : e ≡ a → ⊥) (b : ℕ) (m : b ≡ e + separated 46 (drop e s)) where
       from-dot : labelFrom s at a ≡ namesAt s a e
       from-dot = from-type ∙ behind-some keyword s a e p Missing _ ne
 
       pub label-no-dot : b ≡ e → Missing ≡ labelFrom s at a
       unfolding namesAt
-      label-no-dot z = sym (from-dot ∙ behind-none (marked 46) s e b m Missing _ z)
+      label-no-dot z = sym (from-dot ∙ behind-none (separated 46) s e b m Missing _ z)
 
       module _ (nb : b ≡ e → ⊥) (f : ℕ) (w : f ≡ b + keyword (drop b s)) where
-        from-name : labelFrom s at a ≡ behind keyword s b Missing (λ f. behind (marked 61) s f Missing (λ v. Read a e b f v))
+        from-name : labelFrom s at a ≡ behind keyword s b Missing (λ f. behind (separated 61) s f Missing (λ v. Read a e b f v))
         unfolding namesAt
-        from-name = from-dot ∙ behind-some (marked 46) s e b m Missing _ nb
+        from-name = from-dot ∙ behind-some (separated 46) s e b m Missing _ nb
 
         pub label-no-name : f ≡ b → Missing ≡ labelFrom s at a
         label-no-name z = sym (from-name ∙ behind-none keyword s b f w Missing _ z)
 
-        module _ (nf : f ≡ b → ⊥) (v : ℕ) (u : v ≡ f + marked 61 (drop f s)) where
-          from-equals : labelFrom s at a ≡ behind (marked 61) s f Missing (λ v. Read a e b f v)
+        module _ (nf : f ≡ b → ⊥) (v : ℕ) (u : v ≡ f + separated 61 (drop f s)) where
+          from-equals : labelFrom s at a ≡ behind (separated 61) s f Missing (λ v. Read a e b f v)
           from-equals = from-name ∙ behind-some keyword s b f w Missing _ nf
 
           pub label-no-equals : v ≡ f → Missing ≡ labelFrom s at a
-          label-no-equals z = sym (from-equals ∙ behind-none (marked 61) s f v u Missing _ z)
+          label-no-equals z = sym (from-equals ∙ behind-none (separated 61) s f v u Missing _ z)
 
           pub label-read : (v ≡ f → ⊥) → Read a e b f v ≡ labelFrom s at a
-          label-read nv = sym (from-equals ∙ behind-some (marked 61) s f v u Missing _ nv)
+          label-read nv = sym (from-equals ∙ behind-some (separated 61) s f v u Missing _ nv)
 
 -- ==== what the parser yields
 
@@ -72,9 +72,9 @@ unfolding names labelFrom namesAt
 label-got s at =
     through (Stands s) space gap s at _ (gap-reads s at) Missing _ _ refl
     (λ a. through (Stands s) keyword readKeyword s a _ (keyword-reads s a) Missing _ _ refl
-    (λ e. through (Stands s) (marked 46) (mark 46) s e _ (mark-reads s e 46) Missing _ _ refl
+    (λ e. through (Stands s) (separated 46) (separator 46) s e _ (separator-reads s e 46) Missing _ _ refl
     (λ b. through (Stands s) keyword readKeyword s b _ (keyword-reads s b) Missing _ _ refl
-    (λ f. through (Stands s) (marked 61) (mark 61) s f _ (mark-reads s f 61) Missing _ _ refl
+    (λ f. through (Stands s) (separated 61) (separator 61) s f _ (separator-reads s f 61) Missing _ _ refl
     (λ v. gives (record { ptype = keywordText (span s a e); property = keywordText (span s b f) }) s v)))))
 
 -- ==== a property
@@ -111,9 +111,9 @@ unfolding property names
 property-is xs =
     regroup gap _ valued _ xs
     (λ u xs. regroup readKeyword _ valued _ xs
-    (λ t xs. regroup (mark 46) _ valued _ xs
+    (λ t xs. regroup (separator 46) _ valued _ xs
     (λ u xs. regroup readKeyword _ valued _ xs
-    (λ p xs. regroup (mark 61) _ valued _ xs
+    (λ p xs. regroup (separator 61) _ valued _ xs
     (λ u xs. give-on (record { ptype = t; property = p }) valued xs)))))
 
 module _ (s : List ℕ) (at : ℕ) where

@@ -10,12 +10,12 @@ use Rattle.lexis_rules.specs.Answers.{valueAt}
 use Rattle.result_parts.specs.declared.Reason.the-variants.{Stated, Absent}
 use Rattle.result_parts.specs.declared.Label.the-variants as label
 use Rattle.result_rules.specs.Results.{reason}
-use Rattle.result_separators.specs.Marks.{marked, past}
+use Rattle.result_separators.specs.Separators.{separated, past}
 use Rattle.result_parts.specs.Parts.{reasonFrom, reasonAt, reasonGot, Names, names, namesAt, labelFrom, labelAt, labelGot}
 use Rattle.result_rules.proofs.Opened as definitions
 
 unfoldable opened : Unit {0}
-unfolding definitions.opened valueAt marked past reasonFrom names namesAt labelFrom
+unfolding definitions.opened valueAt separated past reasonFrom names namesAt labelFrom
 opened = tt
 
 -- ==== the reason

@@ -7,9 +7,9 @@ use lib.ListN.{length}
 use Rattle.lexis_rules.specs.Pieces.{space, keyword}
 use Rattle.result_parts.specs.declared.Label.{Label}
 use Rattle.result_parts.specs.declared.Label.the-variants.{Read, Missing}
-use Rattle.result_separators.specs.Marks.{marked}
+use Rattle.result_separators.specs.Separators.{separated}
 use Rattle.result_parts.specs.Parts.{namesAt, labelFrom, labelAt}
-use Rattle.result_separators.proofs.Marks.{all-behind, marked-fits, ends-inside}
+use Rattle.result_separators.proofs.Separators.{all-behind, separated-fits, ends-inside}
 
 -- a ptype from a up to e, a property from b up to f, and the value's place, found behind a place
 pub record LabelPlaces (s : List ℕ) (at a e b f v : ℕ) : Type 0 where
@@ -30,10 +30,10 @@ module _ (s : List ℕ) (at : ℕ) where
   label-stands =
       all-behind (LabelStands s at) space s at Missing _ tt
       (λ a p i. all-behind (LabelStands s at) keyword s a Missing _ tt
-      (λ e q j. all-behind (LabelStands s at) (marked 46) s e Missing _ tt
+      (λ e q j. all-behind (LabelStands s at) (separated 46) s e Missing _ tt
       (λ b r k. all-behind (LabelStands s at) keyword s b Missing _ tt
-      (λ f t l. all-behind (LabelStands s at) (marked 61) s f Missing _ tt
-      (λ v u m. record { after = i; ptype = j; dot = k; property = l; equals = m; inside = ends-inside (marked 61) (marked-fits 61) s f v u m })))))
+      (λ f t l. all-behind (LabelStands s at) (separated 61) s f Missing _ tt
+      (λ v u m. record { after = i; ptype = j; dot = k; property = l; equals = m; inside = ends-inside (separated 61) (separated-fits 61) s f v u m })))))
 
   pub label-places : (a e b f v : ℕ) → Read a e b f v ≡ labelAt s at → LabelPlaces s at a e b f v
   label-places a e b f v h = subst (λ (m : Label). LabelStands s at m) (sym h) label-stands

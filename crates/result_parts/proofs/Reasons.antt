@@ -19,12 +19,12 @@ use Rattle.lexis_rules.specs.Answers.{valueAt, valueGot}
 use Rattle.lexis_laws.proofs.Values.{value-got}
 use Rattle.result_parts.specs.declared.Reason.{Reason}
 use Rattle.result_parts.specs.declared.Reason.the-variants.{Absent}
-use Rattle.result_rules.specs.Results.{mark, reason}
+use Rattle.result_rules.specs.Results.{separator, reason}
 use Rattle.result_laws.proofs.Keywords.{alike-first}
-use Rattle.result_separators.specs.Marks.{marked, behind}
+use Rattle.result_separators.specs.Separators.{separated, behind}
 use Rattle.result_parts.specs.Parts.{reasonWord, statedAs, reasonFrom, reasonAt, reasonGot}
 use Rattle.base_sequences.specs.Spans.{span}
-use Rattle.result_separators.proofs.Marks.{past-none, past-some, behind-none, behind-some, Reads, through, gap-reads, mark-reads, keyword-reads}
+use Rattle.result_separators.proofs.Separators.{past-none, past-some, behind-none, behind-some, Reads, through, gap-reads, separator-reads, keyword-reads}
 
 -- ==== the word, by the tests of the code
 
@@ -62,22 +62,22 @@ module _ (s : List ℕ) (at a : ℕ) where
   reason-no-space z = sym (past-none at a Absent _ z)
 
   module _ (na : a ≡ at → ⊥) (e : ℕ) (p : e ≡ a + reasonWord (drop a s)) where
-    from-word : reasonFrom s at a ≡ behind reasonWord s a Absent (λ e. behind (marked 61) s e Absent (λ v. statedAs (valueAt s v)))
+    from-word : reasonFrom s at a ≡ behind reasonWord s a Absent (λ e. behind (separated 61) s e Absent (λ v. statedAs (valueAt s v)))
     unfolding reasonFrom
     from-word = past-some at a Absent _ na
 
     pub reason-no-word : e ≡ a → Absent ≡ reasonFrom s at a
     reason-no-word z = sym (from-word ∙ behind-none reasonWord s a e p Absent _ z)
 
-    module _ (ne : e ≡ a → ⊥) (v : ℕ) (m : v ≡ e + marked 61 (drop e s)) where
-      from-equals : reasonFrom s at a ≡ behind (marked 61) s e Absent (λ v. statedAs (valueAt s v))
+    module _ (ne : e ≡ a → ⊥) (v : ℕ) (m : v ≡ e + separated 61 (drop e s)) where
+      from-equals : reasonFrom s at a ≡ behind (separated 61) s e Absent (λ v. statedAs (valueAt s v))
       from-equals = from-word ∙ behind-some reasonWord s a e p Absent _ ne
 
       pub reason-no-equals : v ≡ e → Absent ≡ reasonFrom s at a
-      reason-no-equals z = sym (from-equals ∙ behind-none (marked 61) s e v m Absent _ z)
+      reason-no-equals z = sym (from-equals ∙ behind-none (separated 61) s e v m Absent _ z)
 
       pub reason-value : (v ≡ e → ⊥) → (x : Value) → x ≡ valueAt s v → (y : Reason) → y ≡ statedAs x → y ≡ reasonFrom s at a
-      reason-value nv x i y j = j ∙ (ap statedAs i ∙ sym (from-equals ∙ behind-some (marked 61) s e v m Absent _ nv))
+      reason-value nv x i y j = j ∙ (ap statedAs i ∙ sym (from-equals ∙ behind-some (separated 61) s e v m Absent _ nv))
 
 -- ==== what the parser yields
 
@@ -139,5 +139,5 @@ module _ (s : List ℕ) where
   reason-got at =
       through Stands space gap s at _ (gap-reads s at) Absent _ _ refl
       (λ a. through Stands reasonWord (readWord (bytes "reason")) s a _ (word-reads s a) Absent _ _ refl
-      (λ e. through Stands (marked 61) (mark 61) s e _ (mark-reads s e 61) Absent _ _ refl
+      (λ e. through Stands (separated 61) (separator 61) s e _ (separator-reads s e 61) Absent _ _ refl
       (λ v. stated-got (valueAt s v) ∙ value-got s v)))

@@ -17,8 +17,8 @@ use Rattle.result_parts.specs.declared.Reason.{Reason}
 use Rattle.result_parts.specs.declared.Reason.the-variants.{Stated, Absent}
 use Rattle.result_parts.specs.declared.Label.{Label}
 use Rattle.result_parts.specs.declared.Label.the-variants as label
-use Rattle.result_rules.specs.Results.{mark}
-use Rattle.result_separators.specs.Marks.{spaced, marked, past, behind}
+use Rattle.result_rules.specs.Results.{separator}
+use Rattle.result_separators.specs.Separators.{spaced, separated, past, behind}
 use Rattle.base_sequences.specs.Spans.{span}
 
 -- ==== the reason
@@ -36,7 +36,7 @@ statedAs Nothing = Absent
 -- behind a part that ends at `at`, reason "=" value at the place a: not where that is the same place
 unfoldable pub reasonFrom : List ℕ → ℕ → ℕ → Reason
 reasonFrom s at a =
-    past at a Absent (λ a. behind reasonWord s a Absent (λ e. behind (marked (code "=")) s e Absent (λ v. statedAs (valueAt s v))))
+    past at a Absent (λ a. behind reasonWord s a Absent (λ e. behind (separated (code "=")) s e Absent (λ v. statedAs (valueAt s v))))
 
 -- after non-empty space
 abbrev pub reasonAt : List ℕ → ℕ → Reason
@@ -60,16 +60,16 @@ unfoldable pub names : Parser Names
 names = do
   gap
   t ← readKeyword
-  mark (code ".")
+  separator (code ".")
   p ← readKeyword
-  mark (code "=")
+  separator (code "=")
   give (record { ptype = t; property = p })
 
 -- "." at a place, a property and "=", behind a ptype from a up to e
 unfoldable pub namesAt : List ℕ → ℕ → ℕ → Label
 namesAt s a e =
-    behind (marked (code ".")) s e label.Missing
-    (λ b. behind keyword s b label.Missing (λ f. behind (marked (code "=")) s f label.Missing (λ v. label.Read a e b f v)))
+    behind (separated (code ".")) s e label.Missing
+    (λ b. behind keyword s b label.Missing (λ f. behind (separated (code "=")) s f label.Missing (λ v. label.Read a e b f v)))
 
 -- behind a part that ends at `at`, a ptype at the place a, and so on: not where that is the same place
 unfoldable pub labelFrom : List ℕ → ℕ → ℕ → Label

@@ -62,7 +62,7 @@ pub fn reason_from(s: &[u8], at: usize, word: usize) -> Reason
     if word_end == word {
         return Reason::Absent;
     }
-    let value = result_separators::mark_end(s, word_end, b'=');
+    let value = result_separators::separator_end(s, word_end, b'=');
     if value == word_end {
         return Reason::Absent;
     }
@@ -92,7 +92,7 @@ pub fn label_from(s: &[u8], at: usize, type_start: usize) -> Label
     if type_end == type_start {
         return Label::Missing;
     }
-    let name_start = result_separators::mark_end(s, type_end, b'.');
+    let name_start = result_separators::separator_end(s, type_end, b'.');
     if name_start == type_end {
         return Label::Missing;
     }
@@ -100,7 +100,7 @@ pub fn label_from(s: &[u8], at: usize, type_start: usize) -> Label
     if name_end == name_start {
         return Label::Missing;
     }
-    let value = result_separators::mark_end(s, name_end, b'=');
+    let value = result_separators::separator_end(s, name_end, b'=');
     if value == name_end {
         return Label::Missing;
     }

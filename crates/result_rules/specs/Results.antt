@@ -48,8 +48,8 @@ pub record Result : Type 0 where
 -- ==== parts
 
 -- a byte between parts, with space allowed on both sides
-unfoldable pub mark : ℕ → Parser Unit
-mark c = do
+unfoldable pub separator : ℕ → Parser Unit
+separator c = do
   skip
   byte c
   skip
@@ -152,7 +152,7 @@ propertyValue = branch atBehind address (branch (next (code "\"")) quotedValue t
 -- "/" and a digit run (method version, leading zeros not counted)
 unfoldable pub methodVersion : Parser VersionNumber
 methodVersion = do
-  mark (code "/")
+  separator (code "/")
   readNumber
 
 -- method, optionally "/" and a digit run, "=" and a result keyword
@@ -160,7 +160,7 @@ unfoldable pub methodspec : Parser Methodspec
 methodspec = do
   m ← readKeyword
   v ← optional methodVersion
-  mark (code "=")
+  separator (code "=")
   r ← readKeyword
   give (record { method = m; version = orOne v; result = r })
 
@@ -169,7 +169,7 @@ unfoldable pub reason : Parser (List ℕ)
 reason = do
   gap
   readWord (bytes "reason")
-  mark (code "=")
+  separator (code "=")
   readValue
 
 -- after non-empty space: ptype "." property "=" property value
@@ -177,15 +177,15 @@ unfoldable pub property : Parser Property
 property = do
   gap
   t ← readKeyword
-  mark (code ".")
+  separator (code ".")
   p ← readKeyword
-  mark (code "=")
+  separator (code "=")
   v ← propertyValue
   give (record { ptype = t; property = p; value = v })
 
 -- behind its ";": method ..; then optionally .. reason ..; then any number of properties
-abbrev pub unmarked : Parser Result
-unmarked = do
+abbrev pub bareResult : Parser Result
+bareResult = do
   m ← methodspec
   r ← optional reason
   ps ← several property 0
@@ -196,4 +196,4 @@ unfoldable pub result : Parser Result
 result = do
   byte (code ";")
   skip
-  unmarked
+  bareResult

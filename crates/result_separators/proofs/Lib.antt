@@ -1,2 +1,2 @@
-pub mod Marks
-pub mod MarkExamples
+pub mod Separators
+pub mod SeparatorExamples

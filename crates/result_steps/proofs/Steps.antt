@@ -21,7 +21,7 @@ use Rattle.result_parts.specs.declared.Label.the-variants as label
 use Rattle.result_values.specs.declared.Found.{Found}
 use Rattle.result_values.specs.declared.Found.the-variants as found
 use Rattle.result_rules.specs.Results.{Property, property, propertyValue}
-use Rattle.result_separators.specs.Marks.{spaced}
+use Rattle.result_separators.specs.Separators.{spaced}
 use Rattle.result_parts.specs.Parts.{labelFrom, labelAt}
 use Rattle.result_values.specs.Values.{valueOf, valueAt, valueGot}
 use Rattle.base_sequences.specs.Spans.{span}

@@ -21,8 +21,8 @@ within-bound : (low high b : ℕ) → high ≤ 126 → within low high b ≡ tru
 unfolding within
 within-bound low high b l e = omega (arith, leb-true b high (and-right (leb low b) _ e))
 
-mark-bound : (k b : ℕ) → k ≤ 126 → eqb b k ≡ true → b < 127
-mark-bound k b l e = omega (arith, eqb-true b k e)
+separator-bound : (k b : ℕ) → k ≤ 126 → eqb b k ≡ true → b < 127
+separator-bound k b l e = omega (arith, eqb-true b k e)
 
 letter-bound : (b : ℕ) → letter b ≡ true → b < 127
 unfolding letter
@@ -35,11 +35,11 @@ digit-bound b e = within-bound 48 57 b (lit≤ tt) e
 pub keyword-bound : (b : ℕ) → inClass Keyword b ≡ true → b < 127
 unfolding inClass
 keyword-bound b e =
-    or-cases (letter b || within 48 57 b) _ e (λ f. or-cases (letter b) _ f (letter-bound b) (within-bound 48 57 b (lit≤ tt))) (mark-bound 45 b (lit≤ tt))
+    or-cases (letter b || within 48 57 b) _ e (λ f. or-cases (letter b) _ f (letter-bound b) (within-bound 48 57 b (lit≤ tt))) (separator-bound 45 b (lit≤ tt))
 
 pub domain-bound : (b : ℕ) → inDomain b ≡ true → b < 127
 unfolding inDomain
-domain-bound b e = or-cases (inClass Keyword b) _ e (keyword-bound b) (mark-bound 46 b (lit≤ tt))
+domain-bound b e = or-cases (inClass Keyword b) _ e (keyword-bound b) (separator-bound 46 b (lit≤ tt))
 
 pub local-bound : (b : ℕ) → inLocalPart b ≡ true → b < 127
 unfolding inLocalPart alphanumeric

@@ -16,7 +16,7 @@ use Rattle.lexis_rules.specs.Bytes.{inClass}
 use Rattle.lexis_rules.specs.Pieces.{token, quoted}
 use Rattle.lexis_rules.specs.Words.{valueText, skip, gap, readValue, readKeyword, readWord}
 use Rattle.lexis_laws.proofs.Locality.{token-local}
-use Rattle.result_rules.specs.Results.{Value, Property, Methodspec, Result, mark, propertyValue, methodspec, reason, property, result}
+use Rattle.result_rules.specs.Results.{Value, Property, Methodspec, Result, separator, propertyValue, methodspec, reason, property, result}
 use Rattle.result_laws.proofs.Results.{property-within}
 use Rattle.write_rules.specs.Entries.{isText, isKeyword, stands}
 use Rattle.write_rules.specs.Promise.{Bytes}
@@ -49,7 +49,7 @@ pub reason-finds : Finds reason Texted
 unfolding reason
 reason-finds =
     behind-finds gap _ Texted texted-behind (λ a. behind-finds (readWord (bytes "reason")) _ Texted texted-behind
-    (λ a. behind-finds (mark 61) _ Texted texted-behind (λ a. read-value-finds)))
+    (λ a. behind-finds (separator 61) _ Texted texted-behind (λ a. read-value-finds)))
 
 -- a property that was read
 abbrev pub Propertied : Property → List ℕ → Type 0
@@ -63,11 +63,11 @@ propertyIs t n v = record { ptype = t; property = n; value = v }
 
 -- from "=" on
 abbrev Valued : List ℕ → List ℕ → Parser Property
-Valued t n = _>>_ (mark 61) (_>>=_ propertyValue (λ v. give (propertyIs t n v)))
+Valued t n = _>>_ (separator 61) (_>>=_ propertyValue (λ v. give (propertyIs t n v)))
 
 valued-finds : (t n : List ℕ) → isKeyword n ≡ true → Finds (Valued t n) Propertied
 valued-finds t n i =
-    behind-finds (mark 61) _ Propertied propertied-behind
+    behind-finds (separator 61) _ Propertied propertied-behind
     (λ a. bind-finds propertyValue _ Standing Propertied property-value-finds
     (λ v w j xs p m e. let g = give-finds (propertyIs t n v) xs p m e in rw (← g .0, g .1, append-nil w) (i, j)))
 
@@ -76,7 +76,7 @@ unfolding property
 property-finds =
     behind-finds gap _ Propertied propertied-behind
     (λ a. behind-finds readKeyword _ Propertied propertied-behind
-    (λ t. behind-finds (mark 46) _ Propertied propertied-behind
+    (λ t. behind-finds (separator 46) _ Propertied propertied-behind
     (λ a. bind-finds readKeyword (Valued t) (λ k u. isKeyword k ≡ true) Propertied keyword-finds
     (λ n u i xs p m e. propertied-behind u (take m xs) p (valued-finds t n i xs p m e)))))
 

@@ -24,10 +24,10 @@ use Rattle.lexis_rules.specs.Numbers.{one}
 use Rattle.lexis_rules.specs.Words.{skip, gap, readValue, readKeyword, readWord}
 use Rattle.lexis_laws.proofs.Locality.{space-none, token-local}
 use Rattle.lexis_laws.proofs.Steadiness.{value-opens, opensValue}
-use Rattle.result_rules.specs.Results.{Property, Methodspec, Result, orOne, mark, propertyValue, methodVersion, methodspec, reason, property, result}
+use Rattle.result_rules.specs.Results.{Property, Methodspec, Result, orOne, separator, propertyValue, methodVersion, methodspec, reason, property, result}
 use Rattle.result_rules.specs.Table.{listed, table, ptypes, tabled}
 use Rattle.result_rules.proofs.Opened as resinfo
-use Rattle.result_laws.proofs.Following.{Delimited, Closed, solid, delimited-ends, mark-other}
+use Rattle.result_laws.proofs.Following.{Delimited, Closed, solid, delimited-ends, separator-other}
 use Rattle.result_laws.proofs.Values.{property-value-opens}
 use Rattle.result_laws.proofs.Results.{property-no-reason, closed-reason, closed-property}
 use Rattle.write_rules.specs.Entries.{judged, reasoned, shown, whole, isText, isKeyword, allowed}
@@ -37,7 +37,7 @@ use Rattle.write_laws.proofs.Quotes.{value-reads, value-text}
 use Rattle.write_laws.proofs.Values.{pvalue-reads}
 use Rattle.write_laws.proofs.Keywords.{Unworded, keyword-reads, keyword-solid, word-reads, ptype-keyword, tabled-keywords}
 
--- ==== one space, and a mark
+-- ==== one space, and a separator
 
 pub blank-takes : Takes space (32 ∷ []) (Ends space)
 unfolding item inClass oneOf
@@ -52,9 +52,9 @@ pub blank-reads : Reads skip (32 ∷ []) tt (Ends space)
 blank-reads = skipping-reads space (32 ∷ []) (Ends space) blank-takes
 
 -- a byte that begins no space
-pub mark-reads : (c : ℕ) → ((t : List ℕ) → Ends space (c ∷ t)) → Reads (mark c) (c ∷ []) tt (Ends space)
-unfolding mark
-mark-reads c S =
+pub separator-reads : (c : ℕ) → ((t : List ℕ) → Ends space (c ∷ t)) → Reads (separator c) (c ∷ []) tt (Ends space)
+unfolding separator
+separator-reads c S =
     none-reads skip _ (c ∷ []) tt tt (Ends space) (Ends space) (skip-reads space)
     (bind-reads (byte c) _ (c ∷ []) [] tt tt Any (Ends space) (byte-reads c) (skip-reads space) (λ t g. tt)) (λ t g. S t)
 
@@ -68,8 +68,8 @@ equals-solid = solid-byte 61 (unfold oneOf in refl)
 dot-solid : (t : List ℕ) → Ends space (46 ∷ t)
 dot-solid = solid-byte 46 (unfold oneOf in refl)
 
-pub equals-reads : Reads (mark 61) (61 ∷ []) tt (Ends space)
-equals-reads = mark-reads 61 equals-solid
+pub equals-reads : Reads (separator 61) (61 ∷ []) tt (Ends space)
+equals-reads = separator-reads 61 equals-solid
 
 -- a keyword ends before these
 unworded : (c : ℕ) (t : List ℕ) → inClass class.Keyword c ≡ false → Unworded (c ∷ t)
@@ -90,14 +90,14 @@ spec m r = record { method = m; version = one; result = r }
 
 no-version : (t : List ℕ) → Ends space t → methodVersion (61 ∷ t) ≡ nothing
 unfolding methodVersion
-no-version t g = bind-none (mark 47) _ (61 ∷ t) (mark-other 61 47 refl (61 ∷ t) tt 1 (equals-reads t g))
+no-version t g = bind-none (separator 47) _ (61 ∷ t) (separator-other 61 47 refl (61 ∷ t) tt 1 (equals-reads t g))
 
 pub methodspec-reads : (m r : List ℕ) → isKeyword m ≡ true → isKeyword r ≡ true → Reads methodspec (m ++ (61 ∷ r)) (spec m r) Unworded
 unfolding methodspec orOne
 methodspec-reads m r e f =
     bind-reads readKeyword _ m (61 ∷ r) m (spec m r) Unworded Unworded (keyword-reads m e)
     (none-reads (optional methodVersion) _ (61 ∷ r) none (spec m r) (λ t. methodVersion t ≡ nothing) Unworded (absent-reads methodVersion (λ t. methodVersion t ≡ nothing) (λ t g. g))
-    (bind-reads (mark 61) _ (61 ∷ []) r tt (spec m r) (Ends space) Unworded equals-reads
+    (bind-reads (separator 61) _ (61 ∷ []) r tt (spec m r) (Ends space) Unworded equals-reads
     (last-reads readKeyword _ r r (spec m r) Unworded (keyword-reads r f) (give-reads (spec m r) Unworded)) (λ t g. keyword-solid r f t))
     (λ t g. no-version (r ++ t) (keyword-solid r f t)))
     (λ t g. unworded 61 (r ++ t) (unfold resinfo.opened in refl))
@@ -137,7 +137,7 @@ unfolding reason piece
 reason-reads t e =
     bind-reads gap _ (32 ∷ []) (bytes "reason" ++ (61 ∷ bare t)) tt t (Ends space) Delimited gap-reads
     (bind-reads (readWord (bytes "reason")) _ (bytes "reason") (61 ∷ bare t) tt t Unworded Delimited (word-reads (bytes "reason") reason-keyword)
-    (bind-reads (mark 61) _ (61 ∷ []) (bare t) tt t (Ends space) Delimited equals-reads (read-value-reads t e)
+    (bind-reads (separator 61) _ (61 ∷ []) (bare t) tt t (Ends space) Delimited equals-reads (read-value-reads t e)
     (λ x g. value-solid (bare t ++ x) (value-opens (bare t ++ x) t (length (bare t)) (read-value-reads t e x g))))
     (λ x g. unworded 61 (bare t ++ x) (unfold resinfo.opened in refl)))
     (λ x g. keyword-solid (bytes "reason") reason-keyword ((61 ∷ bare t) ++ x))
@@ -152,9 +152,9 @@ unfolding property piece allowed
 property-reads p e =
     bind-reads gap _ (32 ∷ []) (t ++ (46 ∷ (n ++ (61 ∷ w)))) tt p (Ends space) Delimited gap-reads
     (bind-reads readKeyword _ t (46 ∷ (n ++ (61 ∷ w))) t p Unworded Delimited (keyword-reads t tk)
-    (bind-reads (mark 46) _ (46 ∷ []) (n ++ (61 ∷ w)) tt p (Ends space) Delimited (mark-reads 46 dot-solid)
+    (bind-reads (separator 46) _ (46 ∷ []) (n ++ (61 ∷ w)) tt p (Ends space) Delimited (separator-reads 46 dot-solid)
     (bind-reads readKeyword _ n (61 ∷ w) n p Unworded Delimited (keyword-reads n nk)
-    (bind-reads (mark 61) _ (61 ∷ []) w tt p (Ends space) Delimited equals-reads
+    (bind-reads (separator 61) _ (61 ∷ []) w tt p (Ends space) Delimited equals-reads
     (last-reads propertyValue _ w (p .value) p Delimited vr (give-reads p Delimited))
     (λ x g. property-value-opens (w ++ x) (p .value) (length w) (vr x g)))
     (λ x g. unworded 61 (w ++ x) (unfold resinfo.opened in refl)))

@@ -1,4 +1,4 @@
--- What is written is of bytes, because the texts are and all else is letters and marks.
+-- What is written is of bytes, because the texts are and all else is letters and separators.
 use Prim.Native.Nat.{ℕ}
 use native.Mathlib.Omega.{arith}
 use mathlib.Core.Path.{_≡_, refl, subst}

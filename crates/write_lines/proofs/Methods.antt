@@ -25,9 +25,9 @@ use Rattle.write_columns.proofs.Keywords.{column-ends}
 
 -- ==== writing
 
-pub pair-put : (a b : List ℕ) (mark to : ℕ) (o₀ : List ℕ) → length o₀ < 2 ^ 64 → (o₁ : List ℕ) (n : ℕ) → Clipped o₀ to a o₁ n → (o₂ : List ℕ) (m : ℕ) → Clipped o₁ n (mark ∷ []) o₂ m
-    → (o₃ : List ℕ) (k : ℕ) → Clipped o₂ m b o₃ k → Clipped o₀ to (a ++ (mark ∷ b)) o₃ k
-pair-put a b mark to o₀ h o₁ n u o₂ m v o₃ k w = clipped-then (omega (arith, h)) u (clipped-then (omega (arith, h, clipped-long u)) v w)
+pub pair-put : (a b : List ℕ) (separator to : ℕ) (o₀ : List ℕ) → length o₀ < 2 ^ 64 → (o₁ : List ℕ) (n : ℕ) → Clipped o₀ to a o₁ n → (o₂ : List ℕ) (m : ℕ) → Clipped o₁ n (separator ∷ []) o₂ m
+    → (o₃ : List ℕ) (k : ℕ) → Clipped o₂ m b o₃ k → Clipped o₀ to (a ++ (separator ∷ b)) o₃ k
+pair-put a b separator to o₀ h o₁ n u o₂ m v o₃ k w = clipped-then (omega (arith, h)) u (clipped-then (omega (arith, h, clipped-long u)) v w)
 
 pub known-put : (m o : List ℕ) (to : ℕ) (o₀ : List ℕ) → length o₀ < 2 ^ 64 → (o₁ : List ℕ) (n : ℕ) → Clipped o₀ to (bytes "; ") o₁ n → (o₂ : List ℕ) (k : ℕ) → Clipped o₁ n (m ++ (61 ∷ o)) o₂ k
     → Clipped o₀ to (piece (judged m o)) o₂ k

@@ -14,11 +14,11 @@ ghost use Rattle.write_columns.specs.Internal.{Shown};
 ghost use Rattle.write_lines.specs.Internal.{writtenShown, PiecePut, pieceAt, bytesAt};
 
 // Stores two runs of bytes with a byte between them.
-fn put_pair(a: &[u8], mark: u8, b: &[u8], out: &mut [u8], to: usize) -> usize
-    ensures { λ r. ⌜ Clipped (now (out .entry)) to (now (a .entry) ++ (mark ∷ now (b .entry))) (now (out .exit)) r ⌝ }
+fn put_pair(a: &[u8], separator: u8, b: &[u8], out: &mut [u8], to: usize) -> usize
+    ensures { λ r. ⌜ Clipped (now (out .entry)) to (now (a .entry) ++ (separator ∷ now (b .entry))) (now (out .exit)) r ⌝ }
 {
     let n = text_write::put_part(a, out, to);
-    let m = text_write::put_byte(mark, out, n);
+    let m = text_write::put_byte(separator, out, n);
     text_write::put_part(b, out, m)
 }
 

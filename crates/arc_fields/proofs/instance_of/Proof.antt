@@ -4,14 +4,14 @@ use Rattle.arc_fields.proofs.Instances.{instance-no-name, instance-no-e
 use Rattle.arc_fields.proofs.instance_of.Statement.{statement}
 use Rattle.arc_fields.proofs.instance_of.Tie as tie
 
-mark-end-requires : tie.Need-mark-end-requires
-mark-end-requires c κs = search needs
+separator-end-requires : tie.Need-separator-end-requires
+separator-end-requires c κs = search needs
 
 returns : tie.Need-returns
-returns c = instance-no-name (c .before .before .before .args .body .now) (c .before .mark-end .result) (c .before .mark-end .ensures) (c .if1 .taken)
+returns c = instance-no-name (c .before .before .before .args .body .now) (c .before .separator-end .result) (c .before .separator-end .ensures) (c .if1 .taken)
 
-mark-end-requires-2 : tie.Need-mark-end-requires-2
-mark-end-requires-2 c κs = search needs
+separator-end-requires-2 : tie.Need-separator-end-requires-2
+separator-end-requires-2 c κs = search needs
 
 returns-2 : tie.Need-returns-2
 returns-2 c = search instance-no-equals
@@ -29,9 +29,9 @@ pub instance-of-spec : {M : Type 1} → statement M
 instance-of-spec =
     tie.close
     (tie.spec
-    mark-end-requires
+    separator-end-requires
     returns
-    mark-end-requires-2
+    separator-end-requires-2
     returns-2
     space-end-requires
     number-at-requires

@@ -25,8 +25,8 @@ worth-requires c κs = search digits-all
 is-number-requires : tie.Need-is-number-requires
 is-number-requires c κs = search needs
 
-mark-end-requires : tie.Need-mark-end-requires
-mark-end-requires c κs = search needs
+separator-end-requires : tie.Need-separator-end-requires
+separator-end-requires c κs = search needs
 
 returns-2 : tie.Need-returns-2
 returns-2 c = search number-open
@@ -48,7 +48,7 @@ number-at-spec =
     part-worth-end
     worth-requires
     is-number-requires
-    mark-end-requires
+    separator-end-requires
     returns-2
     returns-3
     returns-4)

@@ -1,15 +1,15 @@
 -- `report::says_none` meets its contract: the tests that the code makes in turn are those of the grammar.
-use Rattle.result_separators.proofs.Marks.{word-inside}
-use Rattle.report.proofs.Payloads.{none-no-mark, none-no-word, none-other-word, none-word}
+use Rattle.result_separators.proofs.Separators.{word-inside}
+use Rattle.report.proofs.Payloads.{none-no-separator, none-no-word, none-other-word, none-word}
 use borrow.Author.Needs.{needs}
 use Rattle.report.proofs.says_none.Statement.{statement}
 use Rattle.report.proofs.says_none.Tie as tie
 
-mark-from-requires : tie.Need-mark-from-requires
-mark-from-requires c κs = search needs
+separator-from-requires : tie.Need-separator-from-requires
+separator-from-requires c κs = search needs
 
 returns : tie.Need-returns
-returns c = search none-no-mark
+returns c = search none-no-separator
 
 keyword-end-requires : tie.Need-keyword-end-requires
 keyword-end-requires c κs = search needs
@@ -36,7 +36,7 @@ space-end-requires : tie.Need-space-end-requires
 space-end-requires c κs = search needs
 
 returns-3 : tie.Need-returns-3
-returns-3 c = none-word (c .before .before .before .before .before .before .before .before .before .before .args .s .now) (c .before .before .before .before .before .before .before .before .before .before .args .at) _ (c .before .before .before .before .before .before .before .before .before .before .pre) _ (c .before .before .before .before .before .before .before .before .mark-from .ensures) (c .before .before .before .before .before .before .before .if1 .left) _ (c .before .before .before .before .before .before .keyword-end .ensures) (c .before .before .before .before .before .if2 .left) _ (c .before .before .same-text .ensures) (c .before .if3 .taken) _ (c .space-end .ensures)
+returns-3 c = none-word (c .before .before .before .before .before .before .before .before .before .before .args .s .now) (c .before .before .before .before .before .before .before .before .before .before .args .at) _ (c .before .before .before .before .before .before .before .before .before .before .pre) _ (c .before .before .before .before .before .before .before .before .separator-from .ensures) (c .before .before .before .before .before .before .before .if1 .left) _ (c .before .before .before .before .before .before .keyword-end .ensures) (c .before .before .before .before .before .if2 .left) _ (c .before .before .same-text .ensures) (c .before .if3 .taken) _ (c .space-end .ensures)
 
 returns-4 : tie.Need-returns-4
 returns-4 c = search none-other-word
@@ -45,7 +45,7 @@ pub says-none-spec : {M : Type 1} → statement M
 says-none-spec =
     tie.close
     (tie.spec
-    mark-from-requires
+    separator-from-requires
     returns
     keyword-end-requires
     returns-2

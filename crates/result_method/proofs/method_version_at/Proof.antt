@@ -7,8 +7,8 @@ use Rattle.result_method.proofs.method_version_at.Tie as tie
 space-end-requires : tie.Need-space-end-requires
 space-end-requires c κs = search needs
 
-mark-from-requires : tie.Need-mark-from-requires
-mark-from-requires c κs = search needs
+separator-from-requires : tie.Need-separator-from-requires
+separator-from-requires c κs = search needs
 
 returns : tie.Need-returns
 returns c = search version-no-slash
@@ -24,7 +24,7 @@ space-end-requires-2 c κs = search needs
 
 returns-3 : tie.Need-returns-3
 returns-3 c =
-    version-stated _ _ _ (c .before .before .before .before .before .before .space-end .ensures) _ (c .before .before .before .before .before .mark-from .ensures) (c .before .before .before .before .if1 .left) _
+    version-stated _ _ _ (c .before .before .before .before .before .before .space-end .ensures) _ (c .before .before .before .before .before .separator-from .ensures) (c .before .before .before .before .if1 .left) _
     (c .before .before .before .digits-at .ensures) (c .before .if2 .left) _ (c .space-end2 .ensures)
 
 pub method-version-at-spec : {M : Type 1} → statement M
@@ -32,7 +32,7 @@ method-version-at-spec =
     tie.close
     (tie.spec
     space-end-requires
-    mark-from-requires
+    separator-from-requires
     returns
     digits-at-requires
     returns-2

@@ -14,8 +14,8 @@ reason-word-end-requires c κs = search needs
 returns-2 : tie.Need-returns-2
 returns-2 c = search reason-no-word
 
-mark-end-requires : tie.Need-mark-end-requires
-mark-end-requires c κs = search needs
+separator-end-requires : tie.Need-separator-end-requires
+separator-end-requires c κs = search needs
 
 returns-3 : tie.Need-returns-3
 returns-3 c = search reason-no-equals
@@ -36,7 +36,7 @@ reason-from-spec =
     returns
     reason-word-end-requires
     returns-2
-    mark-end-requires
+    separator-end-requires
     returns-3
     value-at-requires
     stated-as-requires

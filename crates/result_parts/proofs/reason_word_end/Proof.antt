@@ -1,5 +1,5 @@
 -- `result_parts::reason_word_end` meets its contract: its first letter, and then a keyword and whether it is the word.
-use Rattle.result_separators.proofs.Marks.{word-inside}
+use Rattle.result_separators.proofs.Separators.{word-inside}
 use Rattle.result_parts.proofs.Reasons.{word-starts-not, word-empty, word-there, word-other}
 use borrow.Author.Needs.{needs}
 use Rattle.result_parts.proofs.reason_word_end.Statement.{statement}

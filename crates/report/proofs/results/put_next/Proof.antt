@@ -1,15 +1,15 @@
--- `report::results::put_next` meets its contract: the mark, and what stands behind it.
+-- `report::results::put_next` meets its contract: the separator, and what stands behind it.
 use mathlib.Core.Path.{refl}
 use borrow.Author.Needs.{needs}
-use Rattle.report.proofs.Turns.{no-mark, turn-put}
+use Rattle.report.proofs.Turns.{no-separator, turn-put}
 use Rattle.report.proofs.results.put_next.Statement.{statement}
 use Rattle.report.proofs.results.put_next.Tie as tie
 
-mark-from-requires : tie.Need-mark-from-requires
-mark-from-requires c κs = search needs
+separator-from-requires : tie.Need-separator-from-requires
+separator-from-requires c κs = search needs
 
 returns : tie.Need-returns
-returns c = (no-mark _ _ _ (c .before .before .before .before .pre .0) _ (c .before .mark-from .ensures) (c .if1 .taken), refl)
+returns c = (no-separator _ _ _ (c .before .before .before .before .pre .0) _ (c .before .separator-from .ensures) (c .if1 .taken), refl)
 
 put-result-requires : tie.Need-put-result-requires
 put-result-requires c κs = search needs
@@ -22,4 +22,4 @@ returns-2 c = search turn-put
 
 pub put-next-spec : {M : Type 1} → statement M
 put-next-spec =
-    tie.close (tie.spec mark-from-requires returns put-result-requires same-length returns-2)
+    tie.close (tie.spec separator-from-requires returns put-result-requires same-length returns-2)

@@ -8,19 +8,19 @@ use Rattle.base_readers.specs.Readers.{Reader}
 use Rattle.lexis_rules.specs.Pieces.{space}
 use Rattle.result_rules.specs.Results.{next}
 
--- ==== marks
+-- ==== separators
 
--- a mark: space, the byte and space; nothing where the byte is not there
-unfoldable pub marked : ℕ → Reader
-marked c xs = elim (next c (drop (space xs) xs)) [ true ↦ space xs + 1 + space (drop (space xs + 1) xs) | false ↦ 0 ]
+-- a separator: space, the byte and space; nothing where the byte is not there
+unfoldable pub separated : ℕ → Reader
+separated c xs = elim (next c (drop (space xs) xs)) [ true ↦ space xs + 1 + space (drop (space xs + 1) xs) | false ↦ 0 ]
 
 -- the place where the space behind a place ends
 abbrev pub spaced : List ℕ → ℕ → ℕ
 spaced s at = at + space (drop at s)
 
--- a mark behind a part that ends at `at`, looked for at the place a: where the space behind it ends, and `at` where there is none
-unfoldable pub markedFrom : ℕ → List ℕ → ℕ → ℕ → ℕ
-markedFrom c s at a = elim (next c (drop a s)) [ true ↦ spaced s (a + 1) | false ↦ at ]
+-- a separator behind a part that ends at `at`, looked for at the place a: where the space behind it ends, and `at` where there is none
+unfoldable pub separatedFrom : ℕ → List ℕ → ℕ → ℕ → ℕ
+separatedFrom c s at a = elim (next c (drop a s)) [ true ↦ spaced s (a + 1) | false ↦ at ]
 
 -- ==== the place behind
 

@@ -1,4 +1,4 @@
--- A part and what stands behind it: a mark as a reader, what is said of the place behind what a reader takes, how a parser goes on from
+-- A part and what stands behind it: a separator as a reader, what is said of the place behind what a reader takes, how a parser goes on from
 -- there, and that it is inside the slice.
 use Prim.Native.Nat.{ℕ, zero, suc, _+_, _≤_, _<_, _^_}
 use native.Mathlib.Omega.{arith}
@@ -22,8 +22,8 @@ use Rattle.base_readers.proofs.Places.{goes-on, stops, gives, text-at, text-non
 use Rattle.lexis_rules.specs.Pieces.{space, keyword}
 use Rattle.lexis_rules.specs.Words.{keywordText, skip, gap, readKeyword}
 use Rattle.lexis_laws.proofs.Pieces.{space-fits, keyword-fits}
-use Rattle.result_rules.specs.Results.{mark, next}
-use Rattle.result_separators.specs.Marks.{spaced, marked, markedFrom, past, behind}
+use Rattle.result_rules.specs.Results.{separator, next}
+use Rattle.result_separators.specs.Separators.{spaced, separated, separatedFrom, past, behind}
 use Rattle.base_sequences.specs.Spans.{span}
 
 -- ==== the byte that comes next
@@ -46,76 +46,76 @@ module _ (c : ℕ) (s : List ℕ) (at : ℕ) where
       go [] e t = absurd (no-true t)
       go (y ∷ ys) e t = omega (arith, length-drop at s, ap length e)
 
--- ==== a mark as a reader
+-- ==== a separator as a reader
 
 module _ (c : ℕ) (xs : List ℕ) where
-  pub marked-yes : next c (drop (space xs) xs) ≡ true → marked c xs ≡ space xs + 1 + space (drop (space xs + 1) xs)
-  unfolding marked
-  marked-yes h = rw (marked, h)
+  pub separated-yes : next c (drop (space xs) xs) ≡ true → separated c xs ≡ space xs + 1 + space (drop (space xs + 1) xs)
+  unfolding separated
+  separated-yes h = rw (separated, h)
 
-  pub marked-no : next c (drop (space xs) xs) ≡ false → marked c xs ≡ 0
-  unfolding marked
-  marked-no h = rw (marked, h)
+  pub separated-no : next c (drop (space xs) xs) ≡ false → separated c xs ≡ 0
+  unfolding separated
+  separated-no h = rw (separated, h)
 
-  -- a mark takes what its reader takes, and fails where that is nothing
-  pub mark-is : mark c xs ≡ pass (marked c) xs
-  unfolding mark
-  mark-is = go (next c (drop (space xs) xs)) refl
+  -- a separator takes what its reader takes, and fails where that is nothing
+  pub separator-is : separator c xs ≡ pass (separated c) xs
+  unfolding separator
+  separator-is = go (next c (drop (space xs) xs)) refl
     where
-      go : (t : Bool) → next c (drop (space xs) xs) ≡ t → mark c xs ≡ pass (marked c) xs
+      go : (t : Bool) → next c (drop (space xs) xs) ≡ t → separator c xs ≡ pass (separated c) xs
       go true h =
           let m = space (drop 1 (drop (space xs) xs)) in
           let e : m ≡ space (drop (space xs + 1) xs) = rw drop-drop in
-          let k : marked c xs ≡ suc (space xs + m) = omega (arith, marked-yes h) in
+          let k : separated c xs ≡ suc (space xs + m) = omega (arith, separated-yes h) in
           let b : _>>_ (byte c) skip (drop (space xs) xs) ≡ got tt (1 + m) = bind-got (byte c) (λ u. skip) (drop (space xs) xs) tt 1 tt m (byte-is c (drop (space xs) xs) h) (skipping-is space (drop 1 (drop (space xs) xs)) m refl) in
-          let a : mark c xs ≡ got tt (space xs + (1 + m)) = bind-got skip (λ u. _>>_ (byte c) skip) xs tt (space xs) tt (1 + m) (skipping-is space xs (space xs) refl) b in
+          let a : separator c xs ≡ got tt (space xs + (1 + m)) = bind-got skip (λ u. _>>_ (byte c) skip) xs tt (space xs) tt (1 + m) (skipping-is space xs (space xs) refl) b in
           let j : space xs + (1 + m) ≡ suc (space xs + m) = omega arith in
-          a ∙ (rw j (sym (pass-is (marked c) xs (space xs + m) k)))
+          a ∙ (rw j (sym (pass-is (separated c) xs (space xs + m) k)))
       go false h =
           bind-stuck skip (λ u. _>>_ (byte c) skip) xs tt (space xs) (skipping-is space xs (space xs) refl)
           (bind-none (byte c) (λ u. skip) (drop (space xs) xs) (byte-not c (drop (space xs) xs) h))
-          ∙ sym (pass-not (marked c) xs (marked-no h))
+          ∙ sym (pass-not (separated c) xs (separated-no h))
 
--- ==== a mark as the code finds it
+-- ==== a separator as the code finds it
 
 -- the byte is there, so one more than its place is a number of the machine
-pub mark-fits : (s : List ℕ) (a c : ℕ) (r : Bool) → r ≡ next c (drop a s) → r ≡ true → length s < 2 ^ 64 → machine.Fits w64 (a + 1)
-mark-fits s a c r h t l = omega (arith, next-inside c s a (sym h ∙ t))
+pub separator-fits : (s : List ℕ) (a c : ℕ) (r : Bool) → r ≡ next c (drop a s) → r ≡ true → length s < 2 ^ 64 → machine.Fits w64 (a + 1)
+separator-fits s a c r h t l = omega (arith, next-inside c s a (sym h ∙ t))
 
 module _ (s : List ℕ) (at a c : ℕ) where
-  marked-there : next c (drop a s) ≡ true → markedFrom c s at a ≡ spaced s (a + 1)
-  unfolding markedFrom
-  marked-there h = rw (markedFrom, h)
+  separated-there : next c (drop a s) ≡ true → separatedFrom c s at a ≡ spaced s (a + 1)
+  unfolding separatedFrom
+  separated-there h = rw (separatedFrom, h)
 
-  marked-missing : next c (drop a s) ≡ false → markedFrom c s at a ≡ at
-  unfolding markedFrom
-  marked-missing h = rw (markedFrom, h)
+  separated-missing : next c (drop a s) ≡ false → separatedFrom c s at a ≡ at
+  unfolding separatedFrom
+  separated-missing h = rw (separatedFrom, h)
 
   module _ (r : Bool) (h : r ≡ next c (drop a s)) where
-    pub mark-there : r ≡ true → (e : ℕ) → e ≡ spaced s (a + 1) → e ≡ markedFrom c s at a
-    mark-there t e p = p ∙ sym (marked-there (sym h ∙ t))
+    pub separator-there : r ≡ true → (e : ℕ) → e ≡ spaced s (a + 1) → e ≡ separatedFrom c s at a
+    separator-there t e p = p ∙ sym (separated-there (sym h ∙ t))
 
-    pub mark-missing : r ≡ false → at ≡ markedFrom c s at a
-    mark-missing t = sym (marked-missing (sym h ∙ t))
+    pub separator-missing : r ≡ false → at ≡ separatedFrom c s at a
+    separator-missing t = sym (separated-missing (sym h ∙ t))
 
   -- behind the space that is what the reader takes
-  pub marked-from : a ≡ spaced s at → markedFrom c s at a ≡ at + marked c (drop at s)
-  marked-from q = go (next c (drop a s)) refl
+  pub separated-from : a ≡ spaced s at → separatedFrom c s at a ≡ at + separated c (drop at s)
+  separated-from q = go (next c (drop a s)) refl
     where
       met : (t : Bool) → next c (drop a s) ≡ t → next c (drop (space (drop at s)) (drop at s)) ≡ t
       met t h = rw (drop-drop (space (drop at s)) at s, ← q) h
 
-      go : (t : Bool) → next c (drop a s) ≡ t → markedFrom c s at a ≡ at + marked c (drop at s)
+      go : (t : Bool) → next c (drop a s) ≡ t → separatedFrom c s at a ≡ at + separated c (drop at s)
       go true h =
           let n = space (drop at s) in
           let j : at + (n + 1) ≡ a + 1 = omega arith in
           let d : space (drop (n + 1) (drop at s)) ≡ space (drop (a + 1) s) = rw (drop-drop (n + 1) at s, j) in
-          omega (arith, marked-there h, marked-yes c (drop at s) (met true h))
-      go false h = omega (arith, marked-missing h, marked-no c (drop at s) (met false h))
+          omega (arith, separated-there h, separated-yes c (drop at s) (met true h))
+      go false h = omega (arith, separated-missing h, separated-no c (drop at s) (met false h))
 
   -- so it is found as the reader finds it, where the space is known to end there
-  pub mark-found : a ≡ spaced s at → (e : ℕ) → e ≡ markedFrom c s at a → e ≡ at + marked c (drop at s)
-  mark-found q e p = p ∙ marked-from q
+  pub separator-found : a ≡ spaced s at → (e : ℕ) → e ≡ separatedFrom c s at a → e ≡ at + separated c (drop at s)
+  separator-found q e p = p ∙ separated-from q
 
 -- ==== the place behind
 
@@ -174,12 +174,12 @@ module _ (s : List ℕ) (at : ℕ) where
   pub gap-reads : Reads space gap s at (λ e. tt)
   gap-reads = record { there = λ e q ne. pass-at space s at e q ne; missing = λ e q z. pass-none space s at e q z }
 
-  pub mark-reads : (c : ℕ) → Reads (marked c) (mark c) s at (λ e. tt)
+  pub separator-reads : (c : ℕ) → Reads (separated c) (separator c) s at (λ e. tt)
   unfolding from
-  mark-reads c =
+  separator-reads c =
       record {
-        there = λ e q ne. pass-at (marked c) s at e q ne ∙ ap (after at) (sym (mark-is c (drop at s)));
-        missing = λ e q z. pass-none (marked c) s at e q z ∙ ap (after at) (sym (mark-is c (drop at s)));
+        there = λ e q ne. pass-at (separated c) s at e q ne ∙ ap (after at) (sym (separator-is c (drop at s)));
+        missing = λ e q z. pass-none (separated c) s at e q z ∙ ap (after at) (sym (separator-is c (drop at s)));
       }
 
   pub keyword-reads : Reads keyword readKeyword s at (λ e. keywordText (span s at e))
@@ -192,13 +192,13 @@ module _ (s : List ℕ) (at : ℕ) where
 
 -- ==== inside the slice
 
-pub marked-fits : (c : ℕ) → Fits (marked c)
-marked-fits c xs = go (next c (drop (space xs) xs)) refl
+pub separated-fits : (c : ℕ) → Fits (separated c)
+separated-fits c xs = go (next c (drop (space xs) xs)) refl
   where
-    go : (t : Bool) → next c (drop (space xs) xs) ≡ t → marked c xs ≤ length xs
+    go : (t : Bool) → next c (drop (space xs) xs) ≡ t → separated c xs ≤ length xs
     go true h =
-        omega (arith, marked-yes c xs h, next-inside c xs (space xs) h, space-fits (drop (space xs + 1) xs), length-drop (space xs + 1) xs)
-    go false h = omega (arith, marked-no c xs h)
+        omega (arith, separated-yes c xs h, next-inside c xs (space xs) h, space-fits (drop (space xs + 1) xs), length-drop (space xs + 1) xs)
+    go false h = omega (arith, separated-no c xs h)
 
 -- the place behind what is taken is inside
 pub ends-inside : (f : Reader) → Fits f → (s : List ℕ) (at e : ℕ) → e ≡ at + f (drop at s) → at < e → e ≤ length s

@@ -1,18 +1,18 @@
--- Marks at worked examples, computed.
+-- Separators at worked examples, computed.
 use Prim.Native.Char.{code}
 use mathlib.Core.Path.{refl}
 use mathlib.Core.List.{[], _∷_}
 use Rattle.base_readers.specs.Texts.{bytes}
 use Rattle.base_readers.proofs.Cases.{case, Says}
-use Rattle.result_separators.specs.Marks.{marked, markedFrom}
+use Rattle.result_separators.specs.Separators.{separated, separatedFrom}
 use Rattle.result_rules.proofs.Opened as definitions
 
 unfoldable opened : Unit {0}
-unfolding definitions.opened marked markedFrom
+unfolding definitions.opened separated separatedFrom
 opened = tt
 
-marks :
-    Says (marked (code "="))
+separators :
+    Says (separated (code "="))
     (case (bytes "=") 1
     ∷ case (bytes " (c) =\t\r\n x") 10
     ∷ case (bytes " (=) .") 0
@@ -21,11 +21,11 @@ marks :
     ∷ case [] 0
     ∷ [])
 unfolding opened
-marks = refl
+separators = refl
 
 -- behind a part that ends at 0, asked at 1
-marksAsked :
-    Says (λ s. markedFrom (code "=") s 0 1)
+separatorsAsked :
+    Says (λ s. separatedFrom (code "=") s 0 1)
     (case (bytes " = x") 3
     ∷ case (bytes "a= x") 3
     ∷ case (bytes "  = x") 0
@@ -33,4 +33,4 @@ marksAsked :
     ∷ case [] 0
     ∷ [])
 unfolding opened
-marksAsked = refl
+separatorsAsked = refl
