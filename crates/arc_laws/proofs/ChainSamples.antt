@@ -5,7 +5,7 @@ use mathlib.Core.List.{List, [], _∷_, _++_}
 use Rattle.base_readers.specs.Texts.{bytes}
 use Rattle.base_readers.proofs.Cases.{case, Says}
 use Rattle.arc_rules.specs.Chain.{Answer, blank, judge}
-use Rattle.arc_rules.proofs.Opened.{opened}
+use Rattle.arc_rules.proofs.Unfolding.{opened}
 
 -- a field of each kind at an instance
 abbrev r : List ℕ → List ℕ

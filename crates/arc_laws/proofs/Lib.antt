@@ -3,7 +3,7 @@ pub mod Storing
 pub mod Gathering
 pub mod Acceptance
 pub mod Answering
-pub mod Headlines
-pub mod Ways
+pub mod BuiltExactly
+pub mod Numbers
 pub mod ChainSamples
 pub mod Limits

@@ -3,7 +3,7 @@ use mathlib.Core.Path.{_≡_, refl}
 use mathlib.Core.List.{[], _∷_, _++_}
 use Rattle.base_readers.specs.Texts.{bytes}
 use Rattle.block_laws.proofs.Limits.{short}
-use Rattle.arc_rules.proofs.Opened.{opened}
+use Rattle.arc_rules.proofs.Unfolding.{opened}
 use Rattle.arc_rules.proofs.Samples.{judges, zeros, fails}
 
 -- 4: the 513th field. The 512th is read and has its number

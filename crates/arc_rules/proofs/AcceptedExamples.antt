@@ -13,7 +13,7 @@ use Rattle.block_rules.specs.Fields.{Field}
 use Rattle.arc_rules.specs.declared.Kind.{Kind}
 use Rattle.arc_rules.specs.declared.Kind.the-variants.{Results, Signature, Seal, Other}
 use Rattle.arc_rules.specs.Accepted.{isArc, reads, sameKind, standsAt, fieldsAt, cvPrescribed, Accepted}
-use Rattle.arc_rules.proofs.Opened.{opened}
+use Rattle.arc_rules.proofs.Unfolding.{opened}
 
 unfoldable shown : Unit {0}
 unfolding opened reads standsAt

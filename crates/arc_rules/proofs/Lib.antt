@@ -1,4 +1,4 @@
-pub mod Opened
+pub mod Unfolding
 pub mod FieldExamples
 pub mod Samples
 pub mod AcceptedExamples

@@ -14,7 +14,7 @@ use Rattle.arc_rules.specs.declared.Kind.the-variants.{Results, Signatur
 use Rattle.arc_rules.specs.Sets.{Said}
 use Rattle.arc_rules.specs.Chain.{Sets, noSets, column, recorded, gathered, Outcome, none, failed, built, outcomeOf, sealGood, signatureGood, passes, oldestPass, Answer, judged, judge}
 use Rattle.arc_rules.specs.Answers.{answerOf}
-use Rattle.arc_rules.proofs.Opened.{opened}
+use Rattle.arc_rules.proofs.Unfolding.{opened}
 
 -- ==== fifty instances with three places each
 

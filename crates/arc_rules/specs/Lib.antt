@@ -2,4 +2,4 @@ pub mod Sets
 pub mod Chain
 pub mod Accepted
 pub mod Answers
-pub mod Told
+pub mod Terms

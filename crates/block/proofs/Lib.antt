@@ -1,4 +1,4 @@
 pub mod Lines
 pub mod WholeFields
 pub mod Steps
-pub mod Headlines
+pub mod StepsAreWalks

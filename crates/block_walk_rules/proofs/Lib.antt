@@ -2,4 +2,4 @@ pub mod Examples
 pub mod WholeExamples
 pub mod Firsts
 pub mod Given
-pub mod Headlines
+pub mod FieldsGiven

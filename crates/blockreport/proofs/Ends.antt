@@ -14,7 +14,7 @@ use Rattle.base_readers.specs.Parsers.{Got}
 use Rattle.lexis_rules.specs.Limits.{byteLimit}
 use Rattle.ownlist_check.specs.declared.Checked.the-variants.{Good, Bad}
 use Rattle.ownlist_check.specs.Steps.{checkedOf, numberOf, placeOf}
-use Rattle.ownlist_check.proofs.Headlines.{check-number, check-place}
+use Rattle.ownlist_check.proofs.ListAnswers.{check-number, check-place}
 use Rattle.block_rules.specs.Fields.{fields}
 use Rattle.block_laws.proofs.Fields.{fields-place}
 use Rattle.punycode_rules.specs.Labels.{doubleHyphen}
@@ -23,7 +23,7 @@ use Rattle.identifier_rules.specs.OwnList.{ownList}
 use Rattle.identifier_rules.specs.Listed.{ownOf}
 use Rattle.identifier_rules.specs.Spelled.{spelledList, linesOf, ownOfSpelled}
 use Rattle.ownlist_spelled.proofs.Fits.{fits-room}
-use Rattle.identifier_laws.proofs.Headlines.{list-own, list-plain}
+use Rattle.identifier_laws.proofs.Equality.{list-own, list-plain}
 use Rattle.identifier_laws.proofs.OwnLists.{list-length}
 use Rattle.blockreport_rules.specs.declared.BlockReported.{BlockReported}
 use Rattle.blockreport_rules.specs.Reports.{Answer, refuse, fitted, orRefusal, reportFields, reports}

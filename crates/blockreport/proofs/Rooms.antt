@@ -12,7 +12,7 @@ use Rattle.lexis_rules.specs.Limits.{byteLimit}
 use Rattle.identifier_rules.specs.declared.Own.{Own}
 use Rattle.blockreport_rules.specs.Reports.{addition}
 use Rattle.blockreport_fields.specs.Addends.{fieldAddend, placeAfter, bufferAfter}
-use Rattle.blockreport_fields.proofs.Headlines.{addend-is, addend-fits, addend-long}
+use Rattle.blockreport_fields.proofs.AddendIsAddition.{addend-is, addend-fits, addend-long}
 
 -- `text` belongs in `old` from `to` on: where there is room for all of it the buffer then holds `new`, and else only its length is told. `next` is the
 -- place after the whole text, at most the largest one

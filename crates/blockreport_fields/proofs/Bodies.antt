@@ -21,7 +21,7 @@ use Rattle.report_rules.specs.Report.{Answer, report}
 use Rattle.report_rules.specs.Answers as body
 use Rattle.report_rules.specs.declared.Reported.{Reported}
 use Rattle.report_laws.proofs.Rooms.{text-size}
-use Rattle.report_laws.proofs.Ways.{long, bad, short, whole, way, one-when, when-one, six-when, when-six, told-when, when-told}
+use Rattle.report_laws.proofs.Numbers.{long, bad, short, whole, way, one-when, when-one, six-when, when-six, told-when, when-told}
 use Rattle.blockreport_rules.specs.FieldLines.{fieldLine}
 use Rattle.blockreport_fields.specs.Addends.{Addend, bodyAddend, fieldAddend, placeAfter, ifRoom, bufferAfter}
 use Rattle.blockreport_fields.proofs.Room.{room-enough, room-short, room-out, room-none, room-past}

@@ -1,3 +1,3 @@
 pub mod Room
 pub mod Bodies
-pub mod Headlines
+pub mod AddendIsAddition

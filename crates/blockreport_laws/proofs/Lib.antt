@@ -1,5 +1,5 @@
 pub mod Sizes
 pub mod Whose
-pub mod Ways
-pub mod Headlines
+pub mod Numbers
+pub mod LinesAreReports
 pub mod Limits

@@ -5,7 +5,7 @@ use mathlib.Core.List.{List, [], _∷_, _++_, map}
 use Rattle.base_readers.specs.Texts.{bytes}
 use Rattle.block_laws.proofs.Limits.{short}
 use Rattle.blockreport_rules.specs.Reports.{reports}
-use Rattle.blockreport_rules.proofs.Opened.{opened}
+use Rattle.blockreport_rules.proofs.Unfolding.{opened}
 use Rattle.blockreport_rules.proofs.Examples.{says, refuses}
 
 -- 4: the 513th field. The 512th is still told, with its number

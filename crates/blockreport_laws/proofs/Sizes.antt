@@ -16,7 +16,7 @@ use Rattle.identifier_rules.specs.declared.Own.the-variants.{Ours, Others, Unre
 use Rattle.identifier_rules.specs.Identifier.{identifier}
 use Rattle.report_rules.specs.Body.{Reading, unreadable, malformed, newer, noResult, results, reading}
 use Rattle.report_rules.specs.Report.{line}
-use Rattle.report_rules.specs.Told.{numberOf, textOf, countOf}
+use Rattle.report_rules.specs.ByCase.{numberOf, textOf, countOf}
 use Rattle.report_laws.proofs.Counts.{count-size}
 use Rattle.report_laws.proofs.Rooms.{text-size}
 use Rattle.blockreport_rules.specs.FieldLines.{wordOf, fieldLine}

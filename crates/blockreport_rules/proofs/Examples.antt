@@ -8,7 +8,7 @@ use Rattle.base_readers.specs.Texts.{bytes}
 use Rattle.base_readers.proofs.Cases.{case, Says}
 use Rattle.blockreport_rules.specs.Reports.{Answer, reports}
 use Rattle.blockreport_rules.specs.Answers.{answerOf, leaves}
-use Rattle.blockreport_rules.proofs.Opened.{opened}
+use Rattle.blockreport_rules.proofs.Unfolding.{opened}
 
 abbrev pub says : List ℕ → Answer
 says w = record { number = 0; place = 0; written = w }

@@ -1,3 +1,3 @@
-pub mod Opened
+pub mod Unfolding
 pub mod LineExamples
 pub mod Examples

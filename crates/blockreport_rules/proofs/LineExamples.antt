@@ -5,7 +5,7 @@ use Rattle.base_readers.specs.Texts.{bytes}
 use Rattle.identifier_rules.specs.declared.Own.the-variants.{Ours, Others, Unreadable}
 use Rattle.text_decimals_rules.specs.Decimals.{decimal}
 use Rattle.blockreport_rules.specs.FieldLines.{fieldLine}
-use Rattle.blockreport_rules.proofs.Opened.{opened}
+use Rattle.blockreport_rules.proofs.Unfolding.{opened}
 
 -- "0" for 0, and else no zero in front
 one-digit : map decimal (0 ∷ 1 ∷ 7 ∷ 9 ∷ []) ≡ bytes "0" ∷ bytes "1" ∷ bytes "7" ∷ bytes "9" ∷ []

@@ -1,4 +1,4 @@
 pub mod FieldLines
 pub mod Reports
 pub mod Answers
-pub mod Told
+pub mod Terms

@@ -15,7 +15,7 @@ use Rattle.identifier_rules.specs.OwnList.{ownList}
 use Rattle.identifier_rules.specs.Identifier.{identifier}
 use Rattle.identifier_rules.specs.Listed.{ownOf}
 use Rattle.report_rules.specs.Body.{reading}
-use Rattle.report_rules.specs.Told.{numberOf, textOf, countOf}
+use Rattle.report_rules.specs.ByCase.{numberOf, textOf, countOf}
 use Rattle.blockreport_rules.specs.FieldLines.{fieldLine}
 
 -- ==== what a field adds

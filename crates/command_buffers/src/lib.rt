@@ -23,7 +23,7 @@ pub const REPORTS: usize = 3 * lexis_space::BYTES + 64 * Walk::FIELDS + 1;
 pub const LINES: usize = 4 * lexis_space::BYTES + 1;
 
 // A room for the reports of a block in words. Each of its lines stands for nine bytes of the block at least and has at most 17 bytes of words of its own, but
-// for the line of a field, which has at most 153 (`explained-long` in explain_rules/proofs/Headlines.antt).
+// for the line of a field, which has at most 153 (`explained-long` in explain_rules/proofs/PlainAndShort.antt).
 pub const EXPLAINED: usize = 524288;
 
 // A room for a judgement.

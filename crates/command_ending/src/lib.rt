@@ -15,7 +15,7 @@ ghost use Rattle.base_sequences.specs.Stored.{cap};
 ghost use Rattle.command_rules.specs.Messages.{endingLine};
 ghost use Rattle.command_ending.specs.Outcomes.{Outcome};
 
-// More than any line has (`ending-fits` in command_rules/proofs/Headlines.antt).
+// More than any line has (`ending-fits` in command_rules/proofs/EndingsFit.antt).
 const LINE: usize = 256;
 
 // Writes the line of an ending, and returns its length; `list` is our own list. Where that fails there is nothing left to tell it by: the line is

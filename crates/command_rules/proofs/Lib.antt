@@ -1,4 +1,4 @@
-pub mod Headlines
+pub mod EndingsFit
 pub mod Lines
 pub mod Feeds
 pub mod Examples

@@ -1,4 +1,4 @@
 pub mod Terminal
 pub mod Lengths
-pub mod Headlines
+pub mod PlainAndShort
 pub mod Examples

@@ -13,10 +13,10 @@ use Rattle.identifier_rules.specs.OwnList.{ownList}
 use Rattle.identifier_rules.specs.Identifier.{identifier}
 use Rattle.identifier_rules.specs.Listed.{ownOf}
 use Rattle.identifier_rules.specs.Spelled.{linesOf, ownOfSpelled}
-use Rattle.identifier_laws.proofs.Headlines.{list-own, list-plain}
+use Rattle.identifier_laws.proofs.Equality.{list-own, list-plain}
 use Rattle.ownlist_check.specs.declared.Checked.the-variants.{Good, Bad}
 use Rattle.ownlist_check.specs.Steps.{checkedOf, numberOf, placeOf}
-use Rattle.ownlist_check.proofs.Headlines.{check-number, check-place}
+use Rattle.ownlist_check.proofs.ListAnswers.{check-number, check-place}
 use Rattle.host_whose_struct.specs.declared.WhoseFace.{WhoseFace}
 use Rattle.host_whose_struct.specs.Whose.{refuseWhose, tellWhose, whose}
 

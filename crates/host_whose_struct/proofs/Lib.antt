@@ -1,2 +1,2 @@
 pub mod WhoseExamples
-pub mod Headlines
+pub mod WhoseStrips

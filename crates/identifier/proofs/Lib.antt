@@ -1,5 +1,5 @@
 pub mod Tokens
 pub mod Identifiers
-pub mod Headlines
+pub mod IdentifierGot
 pub mod Versions
-pub mod VersionHeadlines
+pub mod VersionGot

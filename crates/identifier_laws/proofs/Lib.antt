@@ -4,5 +4,5 @@ pub mod Feeds
 pub mod OwnLists
 pub mod Ends
 pub mod Parts
-pub mod Headlines
+pub mod Equality
 pub mod Utf8Bytes

@@ -18,7 +18,7 @@ use Rattle.lexis_rules.specs.Bytes.{inClass, alike}
 use Rattle.lexis_laws.proofs.Bytes.{alike-long}
 use Rattle.punycode_rules.specs.Labels.{spelling, spellingLimit, doubleHyphen}
 use Rattle.punycode_laws.proofs.Hyphens.{doubleHyphen-drop, doubleHyphen-take}
-use Rattle.punycode_laws.proofs.Headlines.{spelling-single-hyphens, spelling-limit, spelling-lacks}
+use Rattle.punycode_laws.proofs.SpellingTheorems.{spelling-single-hyphens, spelling-limit, spelling-lacks}
 use Rattle.identifier_rules.specs.OwnList.{entryLimit, longest, entryText, entry, entryAt, ownList}
 use Rattle.identifier_laws.proofs.Entries.{entry-fits, entry-is, entry-ends}
 use Rattle.identifier_laws.proofs.EntryBytes.{text-all}

@@ -12,7 +12,7 @@ use Rattle.base_readers.proofs.Cases.{case, Says}
 use Rattle.lexis_rules.specs.Bytes.{inClass, letter, lower, alike}
 use Rattle.lexis_rules.specs.Pieces.{pair, fold, item, comment, leading, decimal}
 use Rattle.lexis_rules.specs.Words.{quotedText, valueText, counted, readDigits}
-use Rattle.punycode_rules.proofs.Opened as spellings
+use Rattle.punycode_rules.proofs.Unfolding as spellings
 use Rattle.identifier_rules.specs.Utf8.{lead, second, further, sequence}
 use Rattle.identifier_rules.specs.OwnList.{entryItem, entry, entryAt, ownList}
 use Rattle.identifier_rules.specs.declared.Own.the-variants.{Ours, Others}

@@ -35,7 +35,7 @@ amongLines (l ∷ ls) t = alike l t || amongLines ls t
 unfoldable pub amongSpelled : List (List ℕ) → List ℕ → Bool
 amongSpelled lines i = leb (length (spelling i)) spellingLimit && amongLines lines (spelling i)
 
--- whose an identifier is, by such lines. For those of an own list it is what `ownOf` says of its entries (`list-own` in identifier_laws/proofs/Headlines.antt)
+-- whose an identifier is, by such lines. For those of an own list it is what `ownOf` says of its entries (`list-own` in identifier_laws/proofs/Equality.antt)
 abbrev pub ownOfSpelled : List (List ℕ) → Got (List ℕ) → Own
 ownOfSpelled lines nothing = Unreadable
 ownOfSpelled lines (got i n) = ownIf (amongSpelled lines i)

@@ -1,2 +1,2 @@
 pub mod EntrySteps
-pub mod Headlines
+pub mod ListAnswers

@@ -11,8 +11,8 @@ use Rattle.base_sequences.specs.Stored.{Put, Wrote}
 use Rattle.base_sequences.proofs.Splices.{Left, left-start, left-step, left-done, put-front, put-wrote, wrote-then, wrote-count}
 use Rattle.punycode_rules.specs.Labels.{spelling, spellingLimit}
 use Rattle.punycode.specs.Answers.{spellAnswer, spellStored}
-use Rattle.punycode.proofs.Headlines.{spell-long, spell-length, spell-front, spell-room}
-use Rattle.punycode_laws.proofs.Headlines.{spelling-limit}
+use Rattle.punycode.proofs.SpellingInFront.{spell-long, spell-length, spell-front, spell-room}
+use Rattle.punycode_laws.proofs.SpellingTheorems.{spelling-limit}
 use Rattle.ownlist_check.specs.declared.Listed.the-variants.{Entry, End, Bad}
 use Rattle.identifier_rules.specs.OwnList.{longest, ownList}
 use Rattle.ownlist_check.specs.Steps.{listedFrom}

@@ -12,23 +12,23 @@ use Rattle.base_readers.specs.Texts.{oneOf}
 use Rattle.lexis_rules.specs.Limits.{byteLimit}
 use Rattle.block_rules.specs.Fields.{fieldLimit, fields, bytesOf}
 use Rattle.identifier_rules.specs.OwnList.{ownList}
-use Rattle.strip_rules.specs.Told as strip-told
-use Rattle.strip_laws.proofs.Ways as strip-ways
+use Rattle.strip_rules.specs.Terms as strip-told
+use Rattle.strip_laws.proofs.Numbers as strip-ways
 use Rattle.report_rules.specs.Body.{Head, newer, reading}
 use Rattle.report_rules.specs.Report.{idLine, versionLine}
-use Rattle.report_rules.specs.Told.{numberOf, textOf, hasReport}
-use Rattle.report_laws.proofs.Headlines as report-laws
-use Rattle.report_laws.proofs.Ways as report-ways
-use Rattle.arc_rules.specs.Told.{BadVerdicts}
-use Rattle.arc_laws.proofs.Ways as judge-ways
-use Rattle.arc_laws.proofs.Headlines as judge-laws
+use Rattle.report_rules.specs.ByCase.{numberOf, textOf, hasReport}
+use Rattle.report_laws.proofs.AnswersByCase as report-laws
+use Rattle.report_laws.proofs.Numbers as report-ways
+use Rattle.arc_rules.specs.Terms.{BadVerdicts}
+use Rattle.arc_laws.proofs.Numbers as judge-ways
+use Rattle.arc_laws.proofs.BuiltExactly as judge-laws
 use Rattle.block_walk_rules.specs.declared.Step.the-variants.{Last}
 use Rattle.block_walk_rules.specs.Steps.{given, lastOf}
 use Rattle.block_walk_rules.specs.Whole.{stepsFrom, inOrder, First}
-use Rattle.block_walk_rules.proofs.Headlines as step-laws
+use Rattle.block_walk_rules.proofs.FieldsGiven as step-laws
 use Rattle.write_rules.specs.Compose.{compose}
 use Rattle.write_rules.specs.Promise.{HasBody, bodyFor, TooLong, TooShort, Fits, Placed}
-use Rattle.write_laws.proofs.Headlines as write-laws
+use Rattle.write_laws.proofs.WriteTheorems as write-laws
 use Rattle.promises.specs.Exactly.{Exactly}
 use Rattle.promises.specs.Calls.{strips, reports, writes, judges, steps}
 

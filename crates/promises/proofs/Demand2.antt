@@ -15,24 +15,24 @@ use Rattle.identifier_rules.specs.OwnList.{ownList}
 use Rattle.report_rules.specs.Body.{results, reading}
 use Rattle.report_rules.specs.Report.{idLine, lines, ignoredOf}
 use Rattle.result_rules.specs.Results.{Result}
-use Rattle.report_rules.specs.Told.{numberOf, textOf, countOf}
-use Rattle.report_rules.proofs.Opened as body-opened
-use Rattle.report_laws.proofs.Ways as report-ways
+use Rattle.report_rules.specs.ByCase.{numberOf, textOf, countOf}
+use Rattle.report_rules.proofs.Unfolding as body-opened
+use Rattle.report_laws.proofs.Numbers as report-ways
 use Rattle.report_laws.proofs.Rooms as rooms
 use Rattle.strip_rules.specs.Strip.{strip}
 use Rattle.strip_rules.specs.ByFields.{Kept}
-use Rattle.strip_rules.specs.Told.{Known, keptFields, removedFields}
+use Rattle.strip_rules.specs.Terms.{Known, keptFields, removedFields}
 use Rattle.strip_rules.proofs.Examples as strip-opened
-use Rattle.strip_laws.proofs.Headlines as strip-laws
+use Rattle.strip_laws.proofs.StripTheorems as strip-laws
 use Rattle.strip_laws.proofs.ByFields as strip-fields
-use Rattle.strip_laws.proofs.Ways as strip-ways
+use Rattle.strip_laws.proofs.Numbers as strip-ways
 use Rattle.arc_rules.specs.Chain.{outcome, built, failed, validFor, passes, oldestPass}
 use Rattle.arc_rules.specs.declared.Judged.{Judged}
-use Rattle.arc_rules.specs.Told as judge-told
+use Rattle.arc_rules.specs.Terms as judge-told
 use Rattle.arc_rules.specs.Accepted.{kindOf, isArc, Accepted}
-use Rattle.arc_rules.proofs.Opened as arc-opened
-use Rattle.arc_laws.proofs.Ways as judge-ways
-use Rattle.arc_laws.proofs.Headlines as judge-laws
+use Rattle.arc_rules.proofs.Unfolding as arc-opened
+use Rattle.arc_laws.proofs.Numbers as judge-ways
+use Rattle.arc_laws.proofs.BuiltExactly as judge-laws
 use Rattle.promises.specs.Exactly.{Exactly}
 use Rattle.promises.specs.Calls.{strips, reports, judges}
 

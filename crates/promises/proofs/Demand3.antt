@@ -11,7 +11,7 @@ use Rattle.result_rules.specs.Results.{Result}
 use Rattle.report_rules.specs.Body.{reading}
 use Rattle.report_rules.specs.Newer.{Names, WithinLimit, WellFormed, resultsOf, IsResult}
 use Rattle.report_rules.specs.Beside.{insertionPlaces, insertAt}
-use Rattle.report_rules.proofs.Opened as body-opened
+use Rattle.report_rules.proofs.Unfolding as body-opened
 use Rattle.report_laws.proofs.Demand3 as demand3
 use Rattle.report_laws.proofs.Ignored.{insertAt-length}
 use Rattle.promises.specs.Calls.{Reporting, reports}

@@ -9,8 +9,8 @@ use Rattle.base_readers.specs.Texts.{bytes}
 use Rattle.report_rules.specs.Report.{report}
 use Rattle.write_rules.specs.Compose.{compose}
 use Rattle.write_rules.specs.Promise.{Reports, HasBody, Placed, bodyFor}
-use Rattle.write_rules.proofs.Opened as compose
-use Rattle.write_laws.proofs.Headlines as written
+use Rattle.write_rules.proofs.Unfolding as compose
+use Rattle.write_laws.proofs.WriteTheorems as written
 use Rattle.promises.specs.Calls.{reports, writes}
 
 -- ==== For every list of lines it accepts, reading the written body gives the same lines back with an ignored count of zero

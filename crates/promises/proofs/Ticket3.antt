@@ -13,7 +13,7 @@ use Rattle.lexis_rules.specs.Words.{counted}
 use Rattle.lexis_rules.specs.Numbers.{largest, numberOf, isOne}
 use Rattle.lexis_laws.proofs.VersionNumbers as numbers
 use Rattle.report_rules.specs.Newer.{Names, WithinLimit}
-use Rattle.report_rules.proofs.Opened as body-opened
+use Rattle.report_rules.proofs.Unfolding as body-opened
 use Rattle.report_laws.proofs.Demand3 as demand3
 use Rattle.promises.specs.Calls.{reports}
 

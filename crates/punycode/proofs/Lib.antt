@@ -1,4 +1,4 @@
-pub mod Headlines
+pub mod SpellingInFront
 pub mod Writing
 pub mod Labelling
 pub mod Answering

@@ -3,7 +3,7 @@ use mathlib.Core.Path.{_≡_, refl}
 use mathlib.Core.List.{[], _∷_, _++_}
 use Rattle.base_readers.specs.Texts.{bytes}
 use Rattle.base_readers.proofs.Cases.{copies}
-use Rattle.punycode_rules.proofs.Opened.{opened}
+use Rattle.punycode_rules.proofs.Unfolding.{opened}
 use Rattle.punycode_decode.specs.declared.Points.the-variants.{Read, Failed, Long}
 use Rattle.punycode_decode.specs.Answers.{pointsAnswer, pointsStored}
 

@@ -1,4 +1,4 @@
-pub mod Headlines
+pub mod CodePointsInFront
 pub mod Examples
 pub mod Bounds
 pub mod Inserting

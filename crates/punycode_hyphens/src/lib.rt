@@ -1,5 +1,5 @@
 // Whether two hyphens stand in a row in a text. A label that starts with xn-- has them, so a text without them is its own spelling
-// (`spelling-single-hyphens` in punycode_laws/proofs/Headlines.antt), and nothing else need be asked.
+// (`spelling-single-hyphens` in punycode_laws/proofs/SpellingTheorems.antt), and nothing else need be asked.
 ghost use mathlib.Core.Path.{_≡_};
 ghost use mathlib.Core.Bool.{false, _&&_};
 ghost use Prim.Native.Nat.{_+_, _<_};

@@ -1,4 +1,4 @@
-pub mod Headlines
+pub mod SpellingTheorems
 pub mod Lists
 pub mod Digits
 pub mod Adapting

@@ -8,7 +8,7 @@ use Rattle.base_readers.specs.Texts.{bytes}
 use Rattle.base_readers.proofs.Cases.{case, Says}
 use Rattle.punycode_rules.specs.Punycode.{adapt, punycode}
 use Rattle.punycode_rules.specs.Labels.{labels, decoded, spelling, anyPrefixed, spellingLimit, doubleHyphen}
-use Rattle.punycode_rules.proofs.Opened.{opened}
+use Rattle.punycode_rules.proofs.Unfolding.{opened}
 
 -- ==== RFC 3492, section 7.1: the sample strings
 

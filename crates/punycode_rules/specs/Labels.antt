@@ -57,7 +57,7 @@ anyPrefixed [] = false
 anyPrefixed (l ∷ ls) = prefixed l || anyPrefixed ls
 
 -- the most bytes that the spelling of an entry of our own list can have: the entry has 255 at most (01, What the library is handed), and a
--- spelling is at most four times as long as its text (`spelling-length` in punycode_laws/proofs/Headlines.antt). A longer spelling equals none of them
+-- spelling is at most four times as long as its text (`spelling-length` in punycode_laws/proofs/SpellingTheorems.antt). A longer spelling equals none of them
 abbrev pub spellingLimit : ℕ
 spellingLimit = 1020
 

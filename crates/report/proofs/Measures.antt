@@ -16,10 +16,10 @@ use Rattle.identifier.proofs.Identifiers.{identifier-not}
 use Rattle.report_rules.specs.Body.{Reading, unreadable, malformed, newer, noResult, results, reading}
 use Rattle.report_rules.specs.Report.{report}
 use Rattle.report_rules.specs.Answers.{answerOf}
-use Rattle.report_rules.specs.Told.{told}
+use Rattle.report_rules.specs.ByCase.{told}
 use Rattle.report_rules.specs.declared.Reported.{Reported}
 use Rattle.report_laws.proofs.Rooms.{text-size}
-use Rattle.report_laws.proofs.Ways.{when-one, when-told}
+use Rattle.report_laws.proofs.Numbers.{when-one, when-told}
 use Rattle.report.specs.Internal.{refused, wholeAnswer, Said}
 use Rattle.report.proofs.Ends.{reading-not}
 

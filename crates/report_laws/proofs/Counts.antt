@@ -15,7 +15,7 @@ use Rattle.result_rules.specs.Results.{Result}
 use Rattle.result_rules.specs.Table.{understood}
 use Rattle.report_rules.specs.Body.{Head, head, resinfo, resinfos, payload, headed, reading}
 use Rattle.report_rules.specs.Report.{ignoredOf}
-use Rattle.report_rules.specs.Told.{countOf}
+use Rattle.report_rules.specs.ByCase.{countOf}
 use Rattle.report_laws.proofs.Readings.{Payload, neither, word, some, payload-cases}
 use Rattle.report_laws.proofs.Sequence.{resinfo-within}
 use Rattle.report_laws.proofs.Sizes.{resinfos-within}

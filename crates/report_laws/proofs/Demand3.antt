@@ -15,7 +15,7 @@ use Rattle.report_rules.specs.Body.{reading}
 use Rattle.report_rules.specs.Report.{Answer, answer, report}
 use Rattle.report_rules.specs.Newer.{Names, WithinLimit, WellFormed, resultsOf, IsResult, OneMore}
 use Rattle.report_rules.specs.Beside.{insertionPlaces, insertAt}
-use Rattle.report_rules.proofs.Opened.{opened}
+use Rattle.report_rules.proofs.Unfolding.{opened}
 use Rattle.report_laws.proofs.Heads.{Run, naming-run}
 use Rattle.report_laws.proofs.Readings.{report-is, newer-same}
 use Rattle.report_laws.proofs.Ignored.{newer-ignored, insertAt-length, ignored-inserted, places-four}

@@ -29,7 +29,7 @@ use Rattle.lexis_laws.proofs.Locality.{quoted-local}
 use Rattle.lexis_laws.proofs.Steadiness.{skip-within, skip-steady, gap-within, gap-steady, digits-within, digits-opens, digits-steady}
 use Rattle.identifier_rules.specs.Identifier.{identifierByte, identifierToken, identifierValue, identifier}
 use Rattle.identifier_rules.specs.Version.{stated, headerVersion}
-use Rattle.result_rules.proofs.Opened as resinfo
+use Rattle.result_rules.proofs.Unfolding as resinfo
 use Rattle.result_laws.proofs.Following.{Delimited, Closed, solid, delimited-ends, gap-delimited, closed-delimited, closed-gap}
 use Rattle.report_rules.specs.Body.{Head, head}
 use Rattle.report_rules.specs.Newer.{naming}

@@ -8,7 +8,7 @@ pub mod Ignored
 pub mod Demand3
 pub mod Weights
 pub mod Sizes
-pub mod Headlines
-pub mod Ways
+pub mod AnswersByCase
+pub mod Numbers
 pub mod Rooms
 pub mod Counts

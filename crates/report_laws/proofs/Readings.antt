@@ -21,7 +21,7 @@ use Rattle.result_laws.proofs.Following.{Delimited}
 use Rattle.report_rules.specs.Body.{Head, malformed, newer, noResult, results, head, resinfos, wordNone, payload, headed, reading}
 use Rattle.report_rules.specs.Report.{answer, report}
 use Rattle.report_rules.specs.Newer.{naming, WellFormed}
-use Rattle.report_rules.proofs.Opened.{opened}
+use Rattle.report_rules.proofs.Unfolding.{opened}
 use Rattle.report_laws.proofs.Heads.{naming-within, naming-steady, naming-head}
 
 pub report-is : (b : List ℕ) (room : ℕ) → length b ≤ byteLimit → report b room ≡ answer room (reading b)

@@ -8,8 +8,8 @@ use Rattle.lexis_rules.specs.Limits.{byteLimit}
 use Rattle.report_rules.specs.Body.{reading}
 use Rattle.report_rules.specs.Report.{Answer, report}
 use Rattle.report_laws.proofs.Sizes.{report-size}
-use Rattle.report_rules.specs.Told.{textOf}
-use Rattle.report_laws.proofs.Ways.{six-when, when-told}
+use Rattle.report_rules.specs.ByCase.{textOf}
+use Rattle.report_laws.proofs.Numbers.{six-when, when-told}
 
 -- what a body within the limit has to write has at most three bytes for each of its bytes, and four more
 pub text-size : (body : List ℕ) → length body ≤ byteLimit → length (textOf (reading body)) ≤ 3 * length body + 4

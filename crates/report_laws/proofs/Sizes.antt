@@ -27,7 +27,7 @@ use Rattle.result_laws.proofs.Following.{separator-within}
 use Rattle.result_laws.proofs.Results.{method-version-within}
 use Rattle.report_rules.specs.Body.{Head, Reading, unreadable, malformed, newer, noResult, results, head, resinfo, resinfos, wordNone, payload, headed, reading}
 use Rattle.report_rules.specs.Report.{plain, escape, line, idLine, versionLine, noneLine, methodLine, reasonLine, letterOf, propertyLine, propertyLines, resultLines, lines, refusal, fitted, answer, report}
-use Rattle.report_rules.proofs.Opened.{opened}
+use Rattle.report_rules.proofs.Unfolding.{opened}
 use Rattle.report_laws.proofs.Weights.{Sized, thrice, bind-sized, sized-more, give-sized, optional-sized, several-sized, within-sized, text-sized, value-short, keyword-sized, value-sized, digits-sized, gap-sized, separator-sized, skip-sized, ofValue, property-value-sized}
 use Rattle.report_laws.proofs.Heads.{head-within}
 use Rattle.report_laws.proofs.Readings.{Payload, neither, word, some, payload-cases}

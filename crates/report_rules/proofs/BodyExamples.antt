@@ -11,7 +11,7 @@ use Rattle.lexis_rules.specs.declared.VersionNumber.{VersionNumber}
 use Rattle.lexis_rules.specs.declared.VersionNumber.the-variants.{Exact}
 use Rattle.result_rules.specs.Results.{Result}
 use Rattle.report_rules.specs.Body.{Head, unreadable, malformed, newer, noResult, results, head, reading}
-use Rattle.report_rules.proofs.Opened.{opened}
+use Rattle.report_rules.proofs.Unfolding.{opened}
 
 -- ==== identifier and header version
 

@@ -1,4 +1,4 @@
-pub mod Opened
+pub mod Unfolding
 pub mod ReportExamples
 pub mod BodyExamples
 pub mod NewerExamples

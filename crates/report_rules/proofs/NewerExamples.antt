@@ -14,7 +14,7 @@ use Rattle.report_rules.specs.Body.{Head, unreadable, malformed, newer, 
 use Rattle.report_rules.specs.Report.{Answer}
 use Rattle.report_rules.specs.Newer.{naming, WithinLimit, wellFormed, resultsOf, IsResult, Same, OneMore}
 use Rattle.report_rules.specs.Beside.{insertionPlaces, insertAt}
-use Rattle.report_rules.proofs.Opened.{opened}
+use Rattle.report_rules.proofs.Unfolding.{opened}
 
 -- ==== naming a header version
 

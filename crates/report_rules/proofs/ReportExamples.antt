@@ -13,7 +13,7 @@ use Rattle.result_rules.specs.Results.{Kind, Token, Quoted, Mailbox, AtDomain, 
 use Rattle.report_rules.specs.Body.{Reading, unreadable, malformed, newer, noResult, results}
 use Rattle.report_rules.specs.Report.{hexDigit, plain, escape, line, idLine, versionLine, noneLine, methodLine, reasonLine, letterOf, propertyLine, resultLines, lines, ignoredOf, Answer, fitted, answer, report}
 use Rattle.report_rules.specs.Answers.{answerOf, leaves}
-use Rattle.report_rules.proofs.Opened.{opened}
+use Rattle.report_rules.proofs.Unfolding.{opened}
 
 -- ==== texts
 

@@ -6,7 +6,7 @@ use mathlib.Core.List.{List, [], _∷_, _++_, map}
 use Rattle.base_readers.specs.Texts.{bytes}
 use Rattle.base_readers.proofs.Cases.{case, Says}
 use Rattle.report_rules.specs.Report.{Answer, report}
-use Rattle.report_rules.proofs.Opened.{opened}
+use Rattle.report_rules.proofs.Unfolding.{opened}
 
 -- an answer with place 0
 abbrev says : ℕ → List ℕ → ℕ → Answer

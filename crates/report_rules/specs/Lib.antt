@@ -3,4 +3,4 @@ pub mod Report
 pub mod Newer
 pub mod Beside
 pub mod Answers
-pub mod Told
+pub mod ByCase

@@ -24,7 +24,7 @@ use Rattle.lexis_rules.specs.Pieces.{space, token, digits}
 use Rattle.lexis_rules.specs.Words.{skip, gap, readValue, readKeyword, readWord, readNumber}
 use Rattle.lexis_laws.proofs.Steadiness.{skip-within, skip-steady, gap-within, gap-steady, opensValue, value-within, value-opens, value-steady, keyword-within, keyword-opens, keyword-steady, word-within, word-opens, word-steady, number-within, number-opens, number-steady}
 use Rattle.result_rules.specs.Results.{Value, Property, Methodspec, Result, separator, orOne, propertyValue, methodVersion, methodspec, reason, property, result}
-use Rattle.result_rules.proofs.Opened.{opened}
+use Rattle.result_rules.proofs.Unfolding.{opened}
 use Rattle.result_laws.proofs.Following.{Delimited, Closed, solid, delimited-ends, gap-delimited, separator-within, separator-steady, separator-ends, separator-other, closed-delimited, closed-gap}
 use Rattle.result_laws.proofs.Values.{property-value-within, property-value-opens, property-value-steady}
 

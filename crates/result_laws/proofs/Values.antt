@@ -29,7 +29,7 @@ use Rattle.lexis_rules.specs.Words.{quotedText}
 use Rattle.lexis_laws.proofs.Pieces.{quoted-fits}
 use Rattle.lexis_laws.proofs.Locality.{quoted-local, token-local}
 use Rattle.result_rules.specs.Results.{Value, Token, Quoted, Mailbox, next, readQuoted, inLocalPart, inDomain, isLocalPart, isDomain, domain, addressed, address, quotedMailbox, quotedValue, tokenValue, atBehind, propertyValue}
-use Rattle.result_rules.proofs.Opened.{opened}
+use Rattle.result_rules.proofs.Unfolding.{opened}
 use Rattle.result_laws.proofs.Following.{Delimited, solid, listed-ends, delimited-ends, next-not}
 
 -- ==== quoted strings and domains

@@ -11,7 +11,7 @@ use Rattle.result_method.specs.declared.Method.the-variants.{Read, Missi
 use Rattle.result_rules.specs.Results.{Methodspec, methodspec}
 use Rattle.result_separators.specs.Separators.{separated, past}
 use Rattle.result_method.specs.Methods.{methodVersionAt, resultAt, methodAt, methodGot}
-use Rattle.result_rules.proofs.Opened as definitions
+use Rattle.result_rules.proofs.Unfolding as definitions
 
 unfoldable opened : Unit {0}
 unfolding definitions.opened separated past methodVersionAt resultAt methodAt

@@ -12,7 +12,7 @@ use Rattle.result_parts.specs.declared.Label.the-variants as label
 use Rattle.result_rules.specs.Results.{reason}
 use Rattle.result_separators.specs.Separators.{separated, past}
 use Rattle.result_parts.specs.Parts.{reasonFrom, reasonAt, reasonGot, Names, names, namesAt, labelFrom, labelAt, labelGot}
-use Rattle.result_rules.proofs.Opened as definitions
+use Rattle.result_rules.proofs.Unfolding as definitions
 
 unfoldable opened : Unit {0}
 unfolding definitions.opened valueAt separated past reasonFrom names namesAt labelFrom

@@ -1,4 +1,4 @@
-pub mod Opened
+pub mod Unfolding
 pub mod ValueExamples
 pub mod ResultExamples
 pub mod TableExamples

@@ -11,7 +11,7 @@ use Rattle.lexis_rules.specs.declared.VersionNumber.{VersionNumber}
 use Rattle.lexis_rules.specs.declared.VersionNumber.the-variants.{Exact, Large}
 use Rattle.result_rules.specs.Results.{Kind, Token, Quoted, Mailbox, AtDomain, Property, Result, result}
 use Rattle.result_rules.specs.Table.{understood}
-use Rattle.result_rules.proofs.Opened.{opened}
+use Rattle.result_rules.proofs.Unfolding.{opened}
 
 -- ==== what a result says
 

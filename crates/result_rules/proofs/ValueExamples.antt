@@ -9,7 +9,7 @@ use Rattle.base_readers.specs.Parsers.{Got, nothing, got}
 use Rattle.base_readers.proofs.Cases.{case, Says}
 use Rattle.lexis_rules.proofs.ClassExamples.{members, figures, capitals, smalls}
 use Rattle.result_rules.specs.Results.{Kind, Token, Quoted, Mailbox, AtDomain, Value, alphanumeric, inLocalPart, inDomain, isLocalPart, isDomain, domain, propertyValue}
-use Rattle.result_rules.proofs.Opened.{opened}
+use Rattle.result_rules.proofs.Unfolding.{opened}
 
 -- ==== bytes
 

@@ -5,7 +5,7 @@ use mathlib.Core.List.{[], _∷_}
 use Rattle.base_readers.specs.Texts.{bytes}
 use Rattle.base_readers.proofs.Cases.{case, Says}
 use Rattle.result_separators.specs.Separators.{separated, separatedFrom}
-use Rattle.result_rules.proofs.Opened as definitions
+use Rattle.result_rules.proofs.Unfolding as definitions
 
 unfoldable opened : Unit {0}
 unfolding definitions.opened separated separatedFrom

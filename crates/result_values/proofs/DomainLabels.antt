@@ -22,7 +22,7 @@ use Rattle.lexis_rules.specs.Bytes.{inClass}
 use Rattle.lexis_classes.specs.Internal.{bitsOf}
 use Rattle.result_rules.specs.Results.{alphanumeric, inLocalPart, inDomain, singleDots, labels, isDomain, domain}
 use Rattle.result_values.specs.Domains.{localWord, goesOn, closedAt}
-use Rattle.result_rules.proofs.Opened.{opened}
+use Rattle.result_rules.proofs.Unfolding.{opened}
 
 -- ==== bytes of a local part
 

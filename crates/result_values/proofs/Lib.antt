@@ -2,4 +2,4 @@ pub mod DomainLabels
 pub mod ValueCases
 pub mod ValueGot
 pub mod ValueExamples
-pub mod Headlines
+pub mod PropertyValueGot

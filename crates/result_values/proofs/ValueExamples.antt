@@ -9,7 +9,7 @@ use Rattle.result_values.specs.declared.Value.the-variants as at
 use Rattle.result_values.specs.declared.Found.the-variants.{Read, Refused}
 use Rattle.result_rules.specs.Results.{Token, Quoted, Mailbox, AtDomain}
 use Rattle.result_values.specs.Values.{upTo, addressAt, quotedTo, quotedAt, valueFrom, valueAt, valueGot}
-use Rattle.result_rules.proofs.Opened.{opened}
+use Rattle.result_rules.proofs.Unfolding.{opened}
 
 unfoldable placed : Unit {0}
 unfolding opened upTo addressAt quotedTo quotedAt valueFrom

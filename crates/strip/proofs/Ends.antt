@@ -19,7 +19,7 @@ use Rattle.ownlist_check.specs.Steps.{checkedOf}
 use Rattle.punycode_rules.specs.Labels.{doubleHyphen}
 use Rattle.identifier_rules.specs.Spelled.{spelledList, linesOf, amongSpelled}
 use Rattle.identifier_laws.proofs.OwnLists.{list-among}
-use Rattle.identifier_laws.proofs.Headlines.{list-plain}
+use Rattle.identifier_laws.proofs.Equality.{list-plain}
 use Rattle.strip_rules.specs.declared.Stripped.{Stripped}
 use Rattle.strip_rules.specs.Strip.{Answer, orRefusal, stripFields, strip}
 use Rattle.strip_rules.specs.Answers.{answerOf, leaves}

@@ -18,7 +18,7 @@ use Rattle.identifier_rules.specs.Listed.{among}
 use Rattle.strip_rules.specs.Strip.{oursOrUnreadable, isRemoved, keptOf, strip}
 use Rattle.strip_rules.specs.Answers.{leaves}
 use Rattle.strip_laws.proofs.Laws.{Listed, strip-sound}
-use Rattle.strip_laws.proofs.Headlines.{strip-fields}
+use Rattle.strip_laws.proofs.StripTheorems.{strip-fields}
 use Rattle.strip_rules.specs.ByFields as by
 use Rattle.strip_rules.specs.ByFields.{OursOrUnreadable, Removed, Kept}
 

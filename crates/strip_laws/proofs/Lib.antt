@@ -1,6 +1,6 @@
 pub mod Laws
 pub mod Alike
-pub mod Headlines
-pub mod Ways
+pub mod StripTheorems
+pub mod Numbers
 pub mod ByFields
 pub mod Limits

@@ -1,4 +1,4 @@
 pub mod Strip
 pub mod Answers
 pub mod ByFields
-pub mod Told
+pub mod Terms

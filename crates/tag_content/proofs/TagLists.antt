@@ -19,7 +19,7 @@ use Rattle.base_readers.specs.Places.{from, values, listAt, endAt}
 use Rattle.base_readers.specs.Locality.{Within}
 use Rattle.base_readers.proofs.Places.{goes-on, stops, gives, end-at, end-not}
 use Rattle.base_readers.proofs.Repeats.{list-is}
-use Rattle.arc_rules.proofs.Opened.{opened}
+use Rattle.arc_rules.proofs.Unfolding.{opened}
 use Rattle.tag_content.specs.declared.Collected.{Collected}
 use Rattle.tag_content.specs.declared.Collected.the-variants.{Sound, Unsound, Full}
 use Rattle.tag_content.specs.declared.Attempt.{Attempt}

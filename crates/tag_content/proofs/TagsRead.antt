@@ -38,7 +38,7 @@ use Rattle.tag_names.proofs.Fronts.{name-named}
 use Rattle.tag_names.proofs.Needed.{same-whole}
 use Rattle.tag_content.specs.Lists.{tagsAt}
 use Rattle.tag_content.specs.Tests.{kept, isHeld, cvAfter, endedAt, CollectedIf}
-use Rattle.arc_rules.proofs.Opened.{opened}
+use Rattle.arc_rules.proofs.Unfolding.{opened}
 
 -- ==== a tag takes two bytes at least: one of its name, and "="
 

@@ -8,7 +8,7 @@ use Rattle.base_readers.specs.Texts.{bytes}
 use Rattle.base_readers.specs.Parsers.{Got, nothing, got}
 use Rattle.base_readers.proofs.Cases.{case, Says}
 use Rattle.tag_rules.specs.Tags.{tagName, tagValue, white, trimmed, Tag, tag, tags, named, unrepeated, needs, valueNamed}
-use Rattle.tag_rules.proofs.Opened.{opened}
+use Rattle.tag_rules.proofs.Unfolding.{opened}
 
 -- ==== bytes
 

@@ -1,3 +1,3 @@
-pub mod Headlines
+pub mod DigitsTell
 pub mod Digits
 pub mod Examples

@@ -22,11 +22,11 @@ use Rattle.lexis_rules.specs.Words.{valueText, skip}
 use Rattle.identifier_rules.specs.Identifier.{identifierByte, identifierToken, identifierValue, identifier}
 use Rattle.identifier_rules.specs.Version.{stated, headerVersion}
 use Rattle.result_rules.specs.Results.{Result}
-use Rattle.result_rules.proofs.Opened as resinfo
+use Rattle.result_rules.proofs.Unfolding as resinfo
 use Rattle.result_laws.proofs.Following.{Delimited, solid, delimited-ends}
 use Rattle.report_rules.specs.Body.{Head, malformed, noResult, results, head, resinfo, resinfos, payload, reading}
 use Rattle.report_rules.specs.Newer.{WellFormed}
-use Rattle.report_rules.proofs.Opened as body
+use Rattle.report_rules.proofs.Unfolding as body
 use Rattle.report_laws.proofs.Sequence.{over-none, resinfo-within}
 use Rattle.report_laws.proofs.Readings.{reading-is, first-one, headed-is, payload-is, Sound, well-formed-inv, Payload, neither, word, some, payload-cases}
 use Rattle.report_laws.proofs.Heads.{closed-stated}

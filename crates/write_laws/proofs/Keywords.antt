@@ -23,7 +23,7 @@ use Rattle.lexis_rules.specs.Words.{keywordText, readKeyword, readWord}
 use Rattle.lexis_laws.proofs.Pieces.{keyword-fits}
 use Rattle.lexis_laws.proofs.Locality.{keyword-local}
 use Rattle.result_rules.specs.Table.{Row, listed, table, ptypes, tabled}
-use Rattle.result_rules.proofs.Opened as resinfo
+use Rattle.result_rules.proofs.Unfolding as resinfo
 use Rattle.result_laws.proofs.Following.{solid}
 use Rattle.write_rules.specs.Entries.{each, whole, isKeyword}
 use Rattle.write_laws.proofs.Readback.{Reads, last-reads, give-reads, when-reads, whole-reads}

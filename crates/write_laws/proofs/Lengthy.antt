@@ -9,7 +9,7 @@ use lib.ListN.{length, length-append}
 use Rattle.base_readers.specs.Texts.{bytes, oneOf}
 use Rattle.base_readers.specs.Walks.{Walked}
 use Rattle.base_readers.proofs.Cases.{copies}
-use Rattle.result_rules.proofs.Opened as resinfo
+use Rattle.result_rules.proofs.Unfolding as resinfo
 use Rattle.identifier_rules.specs.Identifier.{identifierToken}
 use Rattle.write_rules.specs.Entries.{Entry, identified, unstated, lineOf, each, whole, quotable, isText}
 use Rattle.write_rules.specs.Bodies.{guarded, quote, bareOr, piece, bodyOf}

@@ -18,4 +18,4 @@ pub mod Beginning
 pub mod Answering
 pub mod Signs
 pub mod Lengthy
-pub mod Headlines
+pub mod WriteTheorems

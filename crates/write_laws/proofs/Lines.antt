@@ -17,7 +17,7 @@ use Rattle.lexis_laws.proofs.Pieces.{keyword-fits}
 use Rattle.lexis_laws.proofs.Locality.{keyword-local}
 use Rattle.result_rules.specs.Results.{Kind, Token, Quoted, Mailbox, AtDomain, Property}
 use Rattle.result_rules.specs.Table.{listed, table, ptypes, tabled}
-use Rattle.result_rules.proofs.Opened as resinfo
+use Rattle.result_rules.proofs.Unfolding as resinfo
 use Rattle.report_rules.specs.Report.{escape, line, idLine, noneLine, methodLine, reasonLine, letterOf, propertyLine}
 use Rattle.write_rules.specs.Entries.{Entry, identified, unstated, judged, reasoned, shown, lineOf, whole, isText, isKeyword, single, literal, coded, kindOf, kindLetter, allowed, idEntry, noneEntry, methodEntry, reasonEntry, propertyEntry, entry}
 use Rattle.write_rules.specs.Promise.{Bytes}

@@ -26,7 +26,7 @@ use Rattle.lexis_laws.proofs.Locality.{space-none, token-local}
 use Rattle.lexis_laws.proofs.Steadiness.{value-opens, opensValue}
 use Rattle.result_rules.specs.Results.{Property, Methodspec, Result, orOne, separator, propertyValue, methodVersion, methodspec, reason, property, result}
 use Rattle.result_rules.specs.Table.{listed, table, ptypes, tabled}
-use Rattle.result_rules.proofs.Opened as resinfo
+use Rattle.result_rules.proofs.Unfolding as resinfo
 use Rattle.result_laws.proofs.Following.{Delimited, Closed, solid, delimited-ends, separator-other}
 use Rattle.result_laws.proofs.Values.{property-value-opens}
 use Rattle.result_laws.proofs.Results.{property-no-reason, closed-reason, closed-property}

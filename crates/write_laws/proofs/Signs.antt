@@ -12,7 +12,7 @@ use Rattle.base_sequences.proofs.Tables.{tested-at}
 use Rattle.base_readers.specs.Texts.{within, oneOf}
 use Rattle.lexis_rules.specs.Bytes.{inClass}
 use Rattle.result_rules.specs.Results.{inDomain, singleDots, domain}
-use Rattle.result_rules.proofs.Opened as resinfo
+use Rattle.result_rules.proofs.Unfolding as resinfo
 use Rattle.result_laws.proofs.Values.{implied}
 use Rattle.report_rules.specs.Report.{hexDigit, plain, escape}
 use Rattle.write_rules.specs.Entries.{each, whole, localOf, domainOf}

@@ -14,7 +14,7 @@ use Rattle.lexis_rules.specs.declared.Class.the-variants as class
 use Rattle.lexis_rules.specs.Bytes.{inClass}
 use Rattle.result_rules.specs.Results.{Kind, Token, Quoted, Mailbox, AtDomain, Property}
 use Rattle.result_rules.specs.Table.{listed, ptypes}
-use Rattle.result_rules.proofs.Opened as resinfo
+use Rattle.result_rules.proofs.Unfolding as resinfo
 use Rattle.report_rules.specs.Report.{hexDigit, plain, escape, letterOf}
 use Rattle.write_rules.specs.Entries.{Entry, identified, unstated, judged, reasoned, shown, lineOf, each, isKeyword, stands, allowed}
 use Rattle.write_rules.specs.Promise.{glue, linesWithFeeds}

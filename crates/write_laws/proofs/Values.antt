@@ -22,7 +22,7 @@ use Rattle.lexis_rules.specs.Bytes.{inClass}
 use Rattle.lexis_rules.specs.Pieces.{token}
 use Rattle.lexis_laws.proofs.Locality.{token-local}
 use Rattle.result_rules.specs.Results.{Kind, Token, Quoted, Mailbox, AtDomain, Value, next, readQuoted, inLocalPart, inDomain, isLocalPart, isDomain, domain, addressed, address, quotedMailbox, quotedValue, tokenValue, atBehind, propertyValue}
-use Rattle.result_rules.proofs.Opened as resinfo
+use Rattle.result_rules.proofs.Unfolding as resinfo
 use Rattle.result_laws.proofs.Following.{Delimited, delimited-ends}
 use Rattle.result_laws.proofs.Values.{implied, no-at, token-bound, token-no-at, token-no-quote, token-value-opens, quote-no-at}
 use Rattle.write_rules.specs.Entries.{each, whole, quotable, isText, localOf, domainOf, stands}

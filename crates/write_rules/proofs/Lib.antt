@@ -1,2 +1,2 @@
-pub mod Opened
+pub mod Unfolding
 pub mod Samples

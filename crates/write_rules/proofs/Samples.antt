@@ -9,7 +9,7 @@ use Rattle.base_readers.proofs.Cases.{case, Says}
 use Rattle.write_rules.specs.Entries.{Entry}
 use Rattle.write_rules.specs.Compose.{Answer, refusal, sized, answer, compose}
 use Rattle.write_rules.specs.Promise.{linesWithFeeds}
-use Rattle.write_rules.proofs.Opened.{opened}
+use Rattle.write_rules.proofs.Unfolding.{opened}
 
 -- the body that is written
 abbrev body : List ℕ → Answer

@@ -3,7 +3,7 @@
 use native.Mathlib.Omega.{arith}
 use Rattle.punycode_decode.specs.declared.Points.the-variants.{Read}
 use Rattle.punycode_decode.specs.Answers.{Tells}
-use Rattle.punycode_decode.proofs.Headlines.{tells}
+use Rattle.punycode_decode.proofs.CodePointsInFront.{tells}
 use Rattle.punycode.proofs.Labelling.{told-points}
 use Rattle.punycode.proofs.Answering.{decode-long, decode-failed, decode-never, decode-text}
 use borrow.Author.Needs.{needs}

@@ -3,7 +3,7 @@ use Prim.Native.Nat.{_-_}
 use lib.ListN.{length, take, drop}
 use Rattle.punycode_decode.specs.declared.Points.the-variants.{Read}
 use Rattle.punycode_decode.specs.Answers.{Tells}
-use Rattle.punycode_decode.proofs.Headlines.{tells}
+use Rattle.punycode_decode.proofs.CodePointsInFront.{tells}
 use native.Mathlib.Omega.{arith}
 use mathlib.Core.Path.{sym, _∙_}
 use Rattle.punycode.proofs.Labelling.{told, told-points, label-plain, label-failed, label-text, label-long}

@@ -2,7 +2,7 @@
 use Rattle.lexis_rules.specs.Words.{readDigits}
 use Rattle.identifier_rules.specs.Identifier.{identifierByte, identifier}
 use Rattle.identifier_rules.specs.Version.{stated, headerVersion}
-use Rattle.result_rules.proofs.Opened as resinfo
+use Rattle.result_rules.proofs.Unfolding as resinfo
 use Rattle.report_rules.specs.Body as body
 use Rattle.report_rules.specs.Report.{plain, escape, line, idLine, versionLine, noneLine, methodLine, reasonLine, letterOf, propertyLine, propertyLines, resultLines, lines, ignoredOf, refusal, fitted, answer, report}
 use Rattle.report_rules.specs.Newer.{naming}

@@ -13,7 +13,7 @@ use Rattle.base_sequences.proofs.Splices.{put-front}
 use Rattle.base_readers.specs.Texts.{bytes}
 use Rattle.base_readers.proofs.Cases.{copies}
 use Rattle.punycode_rules.specs.Labels.{spelling, spellingLimit}
-use Rattle.punycode_rules.proofs.Opened.{opened}
+use Rattle.punycode_rules.proofs.Unfolding.{opened}
 use Rattle.punycode_decode.specs.Answers.{fits}
 use Rattle.punycode.specs.Answers.{spellAnswer, spellStored}
 

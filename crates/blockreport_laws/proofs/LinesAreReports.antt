@@ -8,7 +8,7 @@ use Rattle.lexis_rules.specs.Limits.{byteLimit}
 use Rattle.identifier_rules.specs.declared.Own.{Own}
 use Rattle.report_rules.specs.Report.{report}
 use Rattle.report_laws.proofs.Rooms.{text-size}
-use Rattle.report_laws.proofs.Ways.{when-told}
+use Rattle.report_laws.proofs.Numbers.{when-told}
 use Rattle.blockreport_rules.specs.FieldLines.{fieldLine}
 use Rattle.blockreport_rules.specs.Reports.{bodyLines}
 

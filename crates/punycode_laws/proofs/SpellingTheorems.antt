@@ -12,7 +12,7 @@ use Rattle.lexis_rules.specs.Bytes.{lower}
 use Rattle.punycode_rules.specs.Punycode.{basic}
 use Rattle.punycode_rules.specs.Unicode.{utf8s}
 use Rattle.punycode_rules.specs.Labels.{decoded, prefixed, labels, spelling, anyPrefixed, spellingLimit, doubleHyphen}
-use Rattle.punycode_rules.proofs.Opened.{opened}
+use Rattle.punycode_rules.proofs.Unfolding.{opened}
 use Rattle.punycode_laws.proofs.Hyphens.{plain-spelling, doubleHyphen-labels}
 use Rattle.punycode_laws.proofs.Case.{spelling-lower}
 use Rattle.punycode_laws.proofs.ALabels.{a-label-spelling}

@@ -1,6 +1,6 @@
 -- Every definition of our own field opened at once: `unfolding opened` lets a proof compute with all of them.
 use Rattle.base_readers.specs.Parsers.{either}
-use Rattle.report_rules.proofs.Opened as body
+use Rattle.report_rules.proofs.Unfolding as body
 use Rattle.write_rules.specs.Entries as entries
 use Rattle.write_rules.specs.Bodies as bodies
 use Rattle.write_rules.specs.Compose.{goes, final, steps, step, walked, sized, answer, compose}

@@ -14,7 +14,7 @@ use Rattle.lexis_rules.specs.Bytes.{lower, alike}
 use Rattle.punycode_rules.specs.Punycode.{basic}
 use Rattle.punycode_rules.specs.Unicode.{utf8s}
 use Rattle.punycode_rules.specs.Labels.{decoded, prefixed, labels, spelling, anyPrefixed, doubleHyphen}
-use Rattle.punycode_laws.proofs.Headlines.{spelling-plain, spelling-case, spelling-label}
+use Rattle.punycode_laws.proofs.SpellingTheorems.{spelling-plain, spelling-case, spelling-label}
 use Rattle.identifier_rules.specs.OwnList.{ownList}
 use Rattle.identifier_rules.specs.Identifier.{sameIdentifier}
 use Rattle.identifier_rules.specs.Listed.{ownOf}

@@ -15,9 +15,9 @@ use Rattle.lexis_rules.specs.Limits.{byteLimit}
 use Rattle.identifier_rules.specs.declared.Own.{Own}
 use Rattle.report_rules.specs.Body.{reading}
 use Rattle.report_rules.specs.Report.{report}
-use Rattle.report_rules.specs.Told.{told}
+use Rattle.report_rules.specs.ByCase.{told}
 use Rattle.report_laws.proofs.Rooms.{text-size}
-use Rattle.report_laws.proofs.Ways.{when-one, when-told}
+use Rattle.report_laws.proofs.Numbers.{when-one, when-told}
 use Rattle.blockreport_rules.specs.FieldLines.{fieldLine}
 use Rattle.blockreport_rules.specs.Reports.{bodyLines, addition}
 use Rattle.blockreport_fields.specs.Addends.{Addend, bodyAddend, fieldAddend, bufferAfter}

@@ -1,5 +1,5 @@
--- The five ways in which the report of a block is answered, in the order of the answers: what holds in each, and the answer, spelled out. From it: which
--- numbers there are, and that each is given exactly when its rule says so.
+-- The five ways in which stripping answers, in the order of the answers: what holds in each, and the answer, spelled out. From it: which numbers
+-- there are, and that each is given exactly when its rule says so.
 use Prim.Native.Nat.{ℕ, zero, suc, _≤_, _<_}
 use native.Mathlib.Omega.{arith}
 use mathlib.Core.Path.{_≡_, refl, sym, ap, _∙_}
@@ -10,53 +10,50 @@ use lib.Dec.{ltb}
 use lib.ListN.{length, drop}
 use lib.Seq.{drop-append-seam}
 use Rattle.lexis_rules.specs.Limits.{byteLimit}
-use Rattle.block_rules.specs.Fields.{fields}
+use Rattle.block_rules.specs.Fields.{fields, bytesOf}
 use Rattle.block_laws.proofs.Fields.{fields-numbers}
 use Rattle.identifier_rules.specs.OwnList.{ownList}
 use Rattle.identifier_laws.proofs.Entries.{list-five}
-use Rattle.blockreport_rules.specs.Reports.{Answer, fitted, orRefusal, reportFields, reports}
-use Rattle.blockreport_rules.specs.Answers.{answerOf, leaves}
-use Rattle.blockreport_rules.specs.Told.{blockText, Known}
+use Rattle.strip_rules.specs.Strip.{Answer, done, fitted, orRefusal, stripFields, strip}
+use Rattle.strip_rules.specs.Answers.{leaves}
+use Rattle.strip_rules.specs.Terms.{keptFields, removedFields, Known}
+use Rattle.strip_laws.proofs.Laws.{strip-to, strip-is}
 
--- a refusal: nothing is written
+-- a refusal: zero counts, and nothing is written
 abbrev pub refusing : ℕ → ℕ → Answer
-refusing n p = record { number = n; place = p; written = [] }
-
--- done
-abbrev pub telling : List ℕ → Answer
-telling text = record { number = 0; place = 0; written = text }
+refusing n p = record { number = n; place = p; kept = 0; removed = 0; fields = 0; written = [] }
 
 pub data Way (block list : List ℕ) (room : ℕ) : Type 0 where
-  long : byteLimit < length block → reports block list room ≡ refusing 1 0 → Way block list room
-  bad : length block ≤ byteLimit → ownList list .number ≡ 5 → reports block list room ≡ refusing 5 (ownList list .place) → Way block list room
+  long : byteLimit < length block → strip block list room ≡ refusing 1 0 → Way block list room
+  bad : length block ≤ byteLimit → ownList list .number ≡ 5 → strip block list room ≡ refusing 5 (ownList list .place) → Way block list room
   cut : length block ≤ byteLimit → ownList list .number ≡ 0 → (n : ℕ) → fields block .number ≡ n → 2 ≤ n → n ≤ 4
-      → reports block list room ≡ refusing n (fields block .place) → Way block list room
-  short : length block ≤ byteLimit → ownList list .number ≡ 0 → fields block .number ≡ 0 → room < length (blockText block list)
-      → reports block list room ≡ refusing 6 (length (blockText block list)) → Way block list room
-  whole : length block ≤ byteLimit → ownList list .number ≡ 0 → fields block .number ≡ 0 → length (blockText block list) ≤ room
-      → reports block list room ≡ telling (blockText block list) → Way block list room
+      → strip block list room ≡ refusing n (fields block .place) → Way block list room
+  short : length block ≤ byteLimit → ownList list .number ≡ 0 → fields block .number ≡ 0 → room < length (bytesOf (keptFields block list))
+      → strip block list room ≡ refusing 6 (length (bytesOf (keptFields block list))) → Way block list room
+  whole : length block ≤ byteLimit → ownList list .number ≡ 0 → fields block .number ≡ 0 → length (bytesOf (keptFields block list)) ≤ room
+      → strip block list room ≡ done (keptFields block list) (removedFields block list) → Way block list room
 
 pub way : (block list : List ℕ) (room : ℕ) → Way block list room
-unfolding reports reportFields fitted
+unfolding strip stripFields fitted
 way block list room = big (ltb byteLimit (length block)) refl
   where
-    fit : length block ≤ byteLimit → ltb byteLimit (length block) ≡ false → ownList list .number ≡ 0 → fields block .number ≡ 0
-        → (t : Bool) → ltb room (length (blockText block list)) ≡ t → Way block list room
-    fit a l b c true d = short a b c (ltb-true room _ d) (rw (reports, l, orRefusal, b, reportFields, orRefusal, c, fitted, d))
-    fit a l b c false d = whole a b c (ltb-false room _ d) (rw (reports, l, orRefusal, b, reportFields, orRefusal, c, fitted, d))
+    fit : length block ≤ byteLimit → ownList list .number ≡ 0 → fields block .number ≡ 0 → ltb byteLimit (length block) ≡ false
+        → (t : Bool) → ltb room (length (bytesOf (keptFields block list))) ≡ t → Way block list room
+    fit a b c l true d = short a b c (ltb-true room _ d) (strip-to block list room l b c ∙ rw (fitted, d))
+    fit a b c l false d = let e = ltb-false room (length (bytesOf (keptFields block list))) d in whole a b c e (strip-is block list room a b c e)
 
     walk : length block ≤ byteLimit → ltb byteLimit (length block) ≡ false → ownList list .number ≡ 0 → (n : ℕ) → fields block .number ≡ n → Way block list room
-    walk a l b zero c = fit a l b c (ltb room (length (blockText block list))) refl
+    walk a l b zero c = fit a b c l (ltb room (length (bytesOf (keptFields block list)))) refl
     walk a l b (suc n) c =
         let k = fields-numbers block n c in
-        cut a b (suc n) c (k .0) (k .1) (rw (reports, l, orRefusal, b, reportFields, orRefusal, c))
+        cut a b (suc n) c (k .0) (k .1) (rw (strip, l, orRefusal, b, stripFields, orRefusal, c))
 
     own : length block ≤ byteLimit → ltb byteLimit (length block) ≡ false → (n : ℕ) → ownList list .number ≡ n → Way block list room
     own a l zero b = walk a l b (fields block .number) refl
-    own a l (suc n) b = let f = list-five list n b in bad a (b ∙ f) (rw (reports, l, orRefusal, b, f))
+    own a l (suc n) b = let f = list-five list n b in bad a (b ∙ f) (rw (strip, l, orRefusal, b, f))
 
     big : (t : Bool) → ltb byteLimit (length block) ≡ t → Way block list room
-    big true l = long (ltb-true byteLimit (length block) l) (rw (reports, l))
+    big true l = long (ltb-true byteLimit (length block) l) (rw (strip, l))
     big false l = own (ltb-false byteLimit (length block) l) l (ownList list .number) refl
 
 -- ==== when each number is given
@@ -66,7 +63,7 @@ other : {A : Type 0} (a b : Answer) (n : ℕ) → a ≡ b → a .number ≡ n �
 other a b n e q not = absurd (not (sym (ap (λ (x : Answer). x .number) e) ∙ q))
 
 module _ (block list : List ℕ) (room : ℕ) where
-  pub one-when : reports block list room .number ≡ 1 → byteLimit < length block
+  pub one-when : strip block list room .number ≡ 1 → byteLimit < length block
   one-when e =
       elim (way block list room) [
         | long l q ↦ l
@@ -76,7 +73,7 @@ module _ (block list : List ℕ) (room : ℕ) where
         | whole l o f s q ↦ other _ _ 1 q e (λ z. omega arith)
       ]
 
-  pub when-one : byteLimit < length block → reports block list room ≡ refusing 1 0
+  pub when-one : byteLimit < length block → strip block list room ≡ refusing 1 0
   when-one h =
       elim (way block list room) [
         | long l q ↦ q
@@ -86,7 +83,7 @@ module _ (block list : List ℕ) (room : ℕ) where
         | whole l o f s q ↦ absurd (omega arith)
       ]
 
-  pub five-when : reports block list room .number ≡ 5 → (length block ≤ byteLimit) × (ownList list .number ≡ 5)
+  pub five-when : strip block list room .number ≡ 5 → (length block ≤ byteLimit) × (ownList list .number ≡ 5)
   five-when e =
       elim (way block list room) [
         | long l q ↦ other _ _ 5 q e (λ z. omega arith)
@@ -96,7 +93,7 @@ module _ (block list : List ℕ) (room : ℕ) where
         | whole l o f s q ↦ other _ _ 5 q e (λ z. omega arith)
       ]
 
-  pub when-five : length block ≤ byteLimit → ownList list .number ≡ 5 → reports block list room ≡ refusing 5 (ownList list .place)
+  pub when-five : length block ≤ byteLimit → ownList list .number ≡ 5 → strip block list room ≡ refusing 5 (ownList list .place)
   when-five h k =
       elim (way block list room) [
         | long l q ↦ absurd (omega arith)
@@ -106,7 +103,7 @@ module _ (block list : List ℕ) (room : ℕ) where
         | whole l o f s q ↦ absurd (omega arith)
       ]
 
-  pub walk-when : (n : ℕ) → 2 ≤ n → n ≤ 4 → reports block list room .number ≡ n
+  pub walk-when : (n : ℕ) → 2 ≤ n → n ≤ 4 → strip block list room .number ≡ n
       → (length block ≤ byteLimit) × ((ownList list .number ≡ 0) × (fields block .number ≡ n))
   walk-when n a b e =
       elim (way block list room) [
@@ -118,7 +115,7 @@ module _ (block list : List ℕ) (room : ℕ) where
       ]
 
   pub when-walk : (n : ℕ) → 2 ≤ n → n ≤ 4 → length block ≤ byteLimit → ownList list .number ≡ 0 → fields block .number ≡ n
-      → reports block list room ≡ refusing n (fields block .place)
+      → strip block list room ≡ refusing n (fields block .place)
   when-walk n a b h k w =
       elim (way block list room) [
         | long l q ↦ absurd (omega arith)
@@ -128,7 +125,7 @@ module _ (block list : List ℕ) (room : ℕ) where
         | whole l o f s q ↦ absurd (omega arith)
       ]
 
-  pub six-when : reports block list room .number ≡ 6 → Known block list × (room < length (blockText block list))
+  pub six-when : strip block list room .number ≡ 6 → Known block list × (room < length (bytesOf (keptFields block list)))
   six-when e =
       elim (way block list room) [
         | long l q ↦ other _ _ 6 q e (λ z. omega arith)
@@ -138,7 +135,7 @@ module _ (block list : List ℕ) (room : ℕ) where
         | whole l o f s q ↦ other _ _ 6 q e (λ z. omega arith)
       ]
 
-  pub when-six : Known block list → room < length (blockText block list) → reports block list room ≡ refusing 6 (length (blockText block list))
+  pub when-six : Known block list → room < length (bytesOf (keptFields block list)) → strip block list room ≡ refusing 6 (length (bytesOf (keptFields block list)))
   when-six k h =
       elim (way block list room) [
         | long l q ↦ absurd (omega (arith, k .0))
@@ -148,7 +145,7 @@ module _ (block list : List ℕ) (room : ℕ) where
         | whole l o f s q ↦ absurd (omega arith)
       ]
 
-  pub zero-when : reports block list room .number ≡ 0 → Known block list × (length (blockText block list) ≤ room)
+  pub zero-when : strip block list room .number ≡ 0 → Known block list × (length (bytesOf (keptFields block list)) ≤ room)
   zero-when e =
       elim (way block list room) [
         | long l q ↦ other _ _ 0 q e (λ z. omega arith)
@@ -158,8 +155,8 @@ module _ (block list : List ℕ) (room : ℕ) where
         | whole l o f s q ↦ ((l, (o, f)), s)
       ]
 
-  pub when-zero : Known block list → length (blockText block list) ≤ room
-      → reports block list room ≡ telling (blockText block list)
+  pub when-zero : Known block list → length (bytesOf (keptFields block list)) ≤ room
+      → strip block list room ≡ done (keptFields block list) (removedFields block list)
   when-zero k h =
       elim (way block list room) [
         | long l q ↦ absurd (omega (arith, k .0))
@@ -169,8 +166,8 @@ module _ (block list : List ℕ) (room : ℕ) where
         | whole l o f s q ↦ q
       ]
 
-  -- 01, Answer numbers: a refusal, whatever its number, writes nothing
-  pub refused-silent : (reports block list room .number ≡ 0 → ⊥) → reports block list room ≡ refusing (reports block list room .number) (reports block list room .place)
+  -- 01, Answer numbers: a refusal, whatever its number, has zero counts and writes nothing
+  pub refused-silent : (strip block list room .number ≡ 0 → ⊥) → strip block list room ≡ refusing (strip block list room .number) (strip block list room .place)
   refused-silent ne =
       elim (way block list room) [
         | long l q ↦ rw q
@@ -181,7 +178,7 @@ module _ (block list : List ℕ) (room : ℕ) where
       ]
 
   -- there is no other number than 0 to 6
-  pub numbers : reports block list room .number ≤ 6
+  pub numbers : strip block list room .number ≤ 6
   numbers =
       elim (way block list room) [
         | long l q ↦ rw q (omega arith)
@@ -193,7 +190,12 @@ module _ (block list : List ℕ) (room : ℕ) where
 
 -- 01, Answer numbers: on every answer, bytes past those written stay unchanged
 pub past : (block list old : List ℕ)
-    → drop (answerOf (reports block list (length old)) .written) (leaves (reports block list (length old)) old) ≡ drop (answerOf (reports block list (length old)) .written) old
+    → drop (strip block list (length old) .kept) (leaves (strip block list (length old)) old) ≡ drop (strip block list (length old) .kept) old
 past block list old =
-    let w = reports block list (length old) .written in
-    drop-append-seam w (drop (length w) old)
+    elim (way block list (length old)) [
+      | long l q ↦ rw q
+      | bad l o q ↦ rw q
+      | cut l o n f i j q ↦ rw q
+      | short l o f s q ↦ rw q
+      | whole l o f s q ↦ rw q (drop-append-seam (bytesOf (keptFields block list)) (drop (length (bytesOf (keptFields block list))) old))
+    ]

@@ -16,7 +16,7 @@ use Rattle.write_rules.specs.Entries.{lineOf}
 use Rattle.write_rules.specs.Compose.{entries, Answer, refusal, compose}
 use Rattle.write_rules.specs.Promise.{Reports, HasBody, Placed, saysLines, bodyFor, TooLong, TooShort, Fits}
 use Rattle.write_laws.proofs.Readback.{joined}
-use Rattle.write_rules.proofs.Opened.{opened}
+use Rattle.write_rules.proofs.Unfolding.{opened}
 use Rattle.write_laws.proofs.Reporting.{answer-more}
 use Rattle.write_laws.proofs.Lengthy.{lengthy, lengthy-reported, lengthy-body}
 use Rattle.write_laws.proofs.Answering.{placed-none, reported-accepted, answers0, answers1, answers6, answers11, answered, not-both}

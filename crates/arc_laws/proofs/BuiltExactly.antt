@@ -11,10 +11,10 @@ use Rattle.lexis_rules.specs.Limits.{byteLimit}
 use Rattle.block_rules.specs.Fields.{Field, fields}
 use Rattle.arc_rules.specs.Chain.{built, outcome, validFor, Answer, blank, judged, judge}
 use Rattle.arc_rules.specs.Accepted.{kindOf, isArc, Accepted}
-use Rattle.arc_rules.proofs.Opened.{opened}
+use Rattle.arc_rules.proofs.Unfolding.{opened}
 use Rattle.arc_laws.proofs.Acceptance.{accepted-exactly, none-without}
-use Rattle.arc_rules.specs.Told.{Known, BadVerdicts}
-use Rattle.arc_laws.proofs.Ways.{built-when, when-built, none-when}
+use Rattle.arc_rules.specs.Terms.{Known, BadVerdicts}
+use Rattle.arc_laws.proofs.Numbers.{built-when, when-built, none-when}
 use Rattle.arc_laws.proofs.Answering.{judge-is, outcome-none, judge-unread, ten-bad, bad-ten}
 
 -- An ARC structure is accepted exactly when every ARC field reads, and instances 1 to N, N from 1 to 50, each have one field of each kind

@@ -8,7 +8,7 @@ use lib.Dec.{leb, eqb, lit≤, lit<}
 use lib.ListN.{length, length-append, take, drop}
 use Rattle.base_readers.specs.Texts.{bytes}
 use Rattle.text_decimals_rules.specs.Decimals.{decimal}
-use Rattle.text_decimals_rules.proofs.Headlines.{decimal-length}
+use Rattle.text_decimals_rules.proofs.DigitsTell.{decimal-length}
 use Rattle.identifier_rules.specs.OwnList.{entryLimit, longest}
 use Rattle.command_rules.specs.declared.Ending.{Ending}
 use Rattle.command_rules.specs.declared.Ending.the-variants.{Done, Usage, ListClosed, ListUnread, InputUnread, InputTooLong, OutputTooLong, Unwritten, VerdictsRefused, Refused, LinesRefused}

@@ -12,7 +12,7 @@ use lib.Seq.{drop-append-seam}
 use Rattle.lexis_rules.specs.Limits.{byteLimit}
 use Rattle.report_rules.specs.Body.{Reading, unreadable, malformed, newer, noResult, results, reading}
 use Rattle.report_rules.specs.Answers.{leaves}
-use Rattle.report_rules.specs.Told.{numberOf, textOf, countOf, hasReport, told}
+use Rattle.report_rules.specs.ByCase.{numberOf, textOf, countOf, hasReport, told}
 use Rattle.report_rules.specs.Report.{Answer, refusal, fitted, answer, report}
 
 -- a refusal: a zero count, and nothing is written

@@ -12,7 +12,7 @@ use lib.ListN.{length}
 use Rattle.lexis_rules.specs.Limits.{byteLimit}
 use Rattle.block_rules.specs.Fields.{fields}
 use Rattle.block_laws.proofs.Fields.{fields-numbers}
-use Rattle.arc_rules.specs.Told.{Known}
+use Rattle.arc_rules.specs.Terms.{Known}
 use Rattle.arc_rules.specs.Chain.{Outcome, none, failed, built, outcome, validFor, passes, oldestPass, Answer, judged, judge}
 
 -- a number and its place, and 0 for everything else
