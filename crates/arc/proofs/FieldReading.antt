@@ -19,7 +19,8 @@ use Rattle.arc_fields.specs.declared.Start.the-variants as start
 use Rattle.tag_list.specs.declared.Listed.{Listed}
 use Rattle.tag_list.specs.declared.Listed.the-variants as listed
 use Rattle.tag_rules.specs.Tags.{Tag, tags, valueNamed}
-use Rattle.arc_rules.specs.Sets.{instance, chainValue, Said, isSignature, isSeal, says}
+use Rattle.tag_rules.specs.Needed.{chainValue, isSignature, isSeal}
+use Rattle.arc_rules.specs.Sets.{instance, Said, says}
 use Rattle.arc_fields.specs.Answers.{startGot}
 use Rattle.tag_content.specs.Lists.{listTest, listSaid, listedAt}
 use Rattle.tag_content.proofs.TagLists.{list-within}

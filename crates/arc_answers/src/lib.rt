@@ -68,6 +68,7 @@ fn oldest_pass(v: &[u8]) -> usize
     0
 }
 
+// A number and its place, with nothing judged.
 pub fn blank(number: u8, place: usize) -> Judged
     ensures { λ r. ⌜ r ≡ answerOf (blank number place) ⌝ }
 {
@@ -83,6 +84,7 @@ pub fn blank(number: u8, place: usize) -> Judged
     }
 }
 
+// The answer for a chain that failed, with its reason and the field that it names: the verdicts are not read.
 pub fn failed(reason: u8, field: usize, v: &[u8]) -> Judged
     ensures { λ r. ⌜ r ≡ answerOf (judged (failed reason field) (now (v .entry))) ⌝ }
 {

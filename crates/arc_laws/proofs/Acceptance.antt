@@ -58,7 +58,7 @@ full-table [] h = refl
 full-table (r ∷ t) h = rw (h 0 (omega arith)) (full-table t (λ j l. h (suc j) (suc-le-suc l)))
 
 -- each place of the instances up to n
-abbrev Full : ℕ → List (List ℕ) → Type 0
+abbrev pub Full : ℕ → List (List ℕ) → Type 0
 Full n t = (k : Kind) → isArc k ≡ true → (i : ℕ) → 1 ≤ i → i ≤ n → placeOf t i k ≡ 0 → ⊥
 
 module _ (n : ℕ) (t : List (List ℕ)) (w : Shaped t) (m : n ≤ lastInstance) where
@@ -71,7 +71,7 @@ module _ (n : ℕ) (t : List (List ℕ)) (w : Shaped t) (m : n ≤ lastInstance)
       let r : rowEmpty (getD t (i - 1) []) ≡ false = rw (getD-take n t (i - 1) [] j) at (table-full (take n t) e (i - 1) (omega (arith, front))) in
       row-full (getD t (i - 1) []) r (column k) (omega (arith, column-arc k a, w .columns (i - 1) (omega arith)))
 
-  full-places : Full n t → anyEmpty (take n t) ≡ false
+  pub full-places : Full n t → anyEmpty (take n t) ≡ false
   full-places f = full-table (take n t) (λ j h. row j (rw front at h))
     where
       row : (j : ℕ) → j < n → rowEmpty (getD (take n t) j []) ≡ false

@@ -22,7 +22,7 @@ use Rattle.arc_laws.proofs.Answering.{judge-is, outcome-none, judge-unr
 pub built-exactly : (fs : List Field) (n : ℕ) → (outcome fs ≡ built n → Accepted fs n) × (Accepted fs n → outcome fs ≡ built n)
 built-exactly = accepted-exactly
 
--- The same of the answer of `judge`, where the walk over the block comes to its end and there are N verdicts from 0 to 3.
+-- `judge` answers built exactly then, where the walk over the block comes to its end and there are N verdicts from 0 to 3.
 pub judge-built : (block vs : List ℕ) (n : ℕ) → Known block → validFor n vs ≡ true
     → ((judge block vs .outcome ≡ 2) × (judge block vs .instances ≡ n) → Accepted (fields block .items) n)
     × (Accepted (fields block .items) n → (judge block vs .outcome ≡ 2) × (judge block vs .instances ≡ n))

@@ -6,7 +6,8 @@ use Rattle.base_readers.specs.Texts.{bytes}
 use Rattle.base_readers.specs.Parsers.{Got, nothing, got}
 use Rattle.base_readers.proofs.Cases.{case, Says}
 use Rattle.arc_rules.specs.declared.Kind.the-variants.{Results, Signature, Seal, Other}
-use Rattle.arc_rules.specs.Sets.{kindNamed, instance, chainValue, Said, says}
+use Rattle.tag_rules.specs.Needed.{chainValue}
+use Rattle.arc_rules.specs.Sets.{kindNamed, instance, Said, says}
 use Rattle.arc_rules.proofs.Unfolding.{opened}
 
 -- ==== kinds

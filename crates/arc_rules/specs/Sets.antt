@@ -1,9 +1,9 @@
 -- Document 01, "The chain": the three kinds of field, and what each says.
 use Prim.Native.Char.{code}
 use Prim.Native.Nat.{ℕ}
-use mathlib.Core.Bool.{Bool, true, false, not, cond, _&&_}
-use mathlib.Core.List.{List, [], _∷_}
-use lib.Dec.{eqb, leb}
+use mathlib.Core.Bool.{Bool, true, false, _&&_}
+use mathlib.Core.List.{List}
+use lib.Dec.{leb}
 use lib.ListN.{length}
 use Rattle.base_readers.specs.Texts.{bytes, within}
 use Rattle.base_readers.specs.Parsers.{nothing, Parser, _>>=_, _>>_, give, when, byte, text}
@@ -12,7 +12,8 @@ use Rattle.lexis_rules.specs.Pieces.{digits, decimal}
 use Rattle.lexis_rules.specs.Words.{skip}
 use Rattle.arc_rules.specs.declared.Kind.{Kind}
 use Rattle.arc_rules.specs.declared.Kind.the-variants.{Results, Signature, Seal, Other}
-use Rattle.tag_rules.specs.Tags.{Tag, tags, named, unrepeated, needs, valueNamed}
+use Rattle.tag_rules.specs.Tags.{tags, valueNamed}
+use Rattle.tag_rules.specs.Needed.{chainValue, isSignature, isSeal}
 
 -- Kinds: ARC-Authentication-Results, ARC-Message-Signature, ARC-Seal
 unfoldable pub kindNamed : List ℕ → Kind
@@ -50,36 +51,10 @@ instance = do
   byte (code ";")
   give (decimal 0 d)
 
--- cv none, pass and fail in any case: 1, 2 and 3; 0 for anything else
-unfoldable pub chainValue : List ℕ → ℕ
-chainValue v = cond (alike v (bytes "none")) 1 (cond (alike v (bytes "pass")) 2 (cond (alike v (bytes "fail")) 3 0))
-
 -- what a field says: its instance, and a seal's chain value (0 for the other kinds)
 pub record Said : Type 0 where
   pub instance : ℕ
   pub cv : ℕ
-
--- none twice, no second i
-unfoldable pub sound : List Tag → Bool
-sound ts = unrepeated ts && not (named ts (bytes "i"))
-
--- A signature needs a, b, bh, d, h and s
-abbrev pub signatureTags : List (List ℕ)
-signatureTags = bytes "a" ∷ bytes "b" ∷ bytes "bh" ∷ bytes "d" ∷ bytes "h" ∷ bytes "s" ∷ []
-
-unfoldable pub isSignature : List Tag → Bool
-isSignature ts = sound ts && needs signatureTags ts
-
--- A seal needs a, b, d, s and cv, has no h, and its cv is none, pass or fail in any case
-abbrev pub sealTags : List (List ℕ)
-sealTags = bytes "a" ∷ bytes "b" ∷ bytes "d" ∷ bytes "s" ∷ bytes "cv" ∷ []
-
-unfoldable pub isSeal : List Tag → Bool
-isSeal ts =
-    sound ts
-    && needs sealTags ts
-    && not (named ts (bytes "h"))
-    && not (eqb (chainValue (valueNamed (bytes "cv") ts)) 0)
 
 -- For the first kind nothing after that is read. For the others a DKIM tag list follows
 unfoldable pub says : Kind → Parser Said

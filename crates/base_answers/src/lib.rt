@@ -29,6 +29,20 @@ impl Number {
     pub const BAD_VERDICTS: u8 = 10;
     // No body has that report (02, ticket [1]).
     pub const NO_SUCH_REPORT: u8 = 11;
+    // Bad pairs of method and version (02, ticket [4]).
+    pub const BAD_PAIRS: u8 = 12;
+    // The marks handed in are not those of this block and list (02, ticket [7]).
+    pub const OTHER_MARKS: u8 = 13;
+    // The next instance would be past 50 (02, ticket [9]).
+    pub const PAST_LAST: u8 = 14;
+    // Lengths that don't sum to the buffer, over 256 of them, or too little room for numbers and lengths (02, ticket [13]).
+    pub const BAD_LENGTHS: u8 = 15;
+    // The chain failed by reason (d), so that no set may be added (02, ticket [9]).
+    pub const CHAIN_ENDED: u8 = 16;
+    // No field has a trusted identifier (02, ticket [12]).
+    pub const NO_TRUSTED_FIELD: u8 = 17;
+    // A text for the seal that can't stand in it (02, ticket [9]).
+    pub const BAD_SEAL_TEXT: u8 = 18;
 }
 
 // What came of the ARC fields of a block.

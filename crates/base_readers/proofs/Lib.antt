@@ -10,3 +10,5 @@ pub mod Repeats
 pub mod Places
 pub mod Walks
 pub mod Cases
+pub mod Lines
+pub mod LineExamples

@@ -4,3 +4,4 @@ pub mod Parsers
 pub mod Places
 pub mod Walks
 pub mod Locality
+pub mod Lines

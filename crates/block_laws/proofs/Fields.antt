@@ -95,7 +95,7 @@ fields-fine block z = walk-fine 0 0 0 block zero-le zero-le z
 
 -- ==== and back
 
-first-sound : {fs : List Field} → AllSound fs → inClass Blank (getD (bytesOf fs) 0 0) ≡ false
+pub first-sound : {fs : List Field} → AllSound fs → inClass Blank (getD (bytesOf fs) 0 0) ≡ false
 unfolding bytesOf
 first-sound none = class-zero Blank
 first-sound (more {f} {fs} s a) = rw (List·getD-append (f .bytes) (bytesOf fs) 0 0 (s .some)) (s .first)

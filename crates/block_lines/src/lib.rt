@@ -83,6 +83,7 @@ pub fn line_end(s: &[u8], at: usize) -> usize
     at
 }
 
+// Whether a space or tab stands at a place.
 pub fn blank_at(s: &[u8], at: usize) -> bool
     ensures { λ r. ⌜ r ≡ inClass Class.Blank (getD (drop at (now (s .entry))) 0 0) ⌝ }
 {

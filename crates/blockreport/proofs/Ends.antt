@@ -18,13 +18,14 @@ use Rattle.ownlist_check.proofs.ListAnswers.{check-number, check-place}
 use Rattle.block_rules.specs.Fields.{fields}
 use Rattle.block_laws.proofs.Fields.{fields-place}
 use Rattle.punycode_rules.specs.Labels.{doubleHyphen}
-use Rattle.identifier_rules.specs.declared.Own.{Own}
-use Rattle.identifier_rules.specs.OwnList.{ownList}
-use Rattle.identifier_rules.specs.Listed.{ownOf}
-use Rattle.identifier_rules.specs.Spelled.{spelledList, linesOf, ownOfSpelled}
+use Rattle.ownlist_rules.specs.declared.Own.{Own}
+use Rattle.ownlist_rules.specs.OwnList.{ownList}
+use Rattle.ownlist_rules.specs.Listed.{ownOf}
+use Rattle.base_readers.specs.Lines.{linesOf}
+use Rattle.ownlist_rules.specs.Spelled.{spelledList, ownOfSpelled}
 use Rattle.ownlist_spelled.proofs.Fits.{fits-room}
-use Rattle.identifier_laws.proofs.Equality.{list-own, list-plain}
-use Rattle.identifier_laws.proofs.OwnLists.{list-length}
+use Rattle.ownlist_laws.proofs.AsCompared.{list-own, list-plain}
+use Rattle.ownlist_laws.proofs.OwnLists.{list-length}
 use Rattle.blockreport_rules.specs.declared.BlockReported.{BlockReported}
 use Rattle.blockreport_rules.specs.Reports.{Answer, refuse, fitted, orRefusal, reportFields, reports}
 use Rattle.blockreport_rules.specs.Answers.{answerOf, leaves}

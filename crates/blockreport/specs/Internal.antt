@@ -6,7 +6,7 @@ use lib.ListN.{length}
 use lib.Seq.{sets}
 use Rattle.base_readers.specs.Parsers.{Got}
 use Rattle.block_rules.specs.Fields.{fields}
-use Rattle.identifier_rules.specs.declared.Own.{Own}
+use Rattle.ownlist_rules.specs.declared.Own.{Own}
 use Rattle.blockreport_rules.specs.declared.BlockReported.{BlockReported}
 use Rattle.blockreport_rules.specs.Reports.{additions}
 

@@ -9,7 +9,7 @@ use Rattle.base_sequences.specs.Stored.{cap}
 use Rattle.base_readers.specs.Texts.{bytes}
 use Rattle.base_readers.specs.Parsers.{Got}
 use Rattle.lexis_rules.specs.Bytes.{alike}
-use Rattle.identifier_rules.specs.declared.Own.{Own}
+use Rattle.ownlist_rules.specs.declared.Own.{Own}
 use Rattle.identifier_rules.specs.Identifier.{identifier}
 use Rattle.report_rules.specs.Report.{report}
 use Rattle.blockreport_rules.specs.FieldLines.{fieldLine}

@@ -3,12 +3,13 @@
 // The writers take a body and a buffer of any length. A body of more than 65,536 bytes has a line with number 1 and no report. Of a line as much is
 // stored as there is room for; a report is stored where there is room for all of it.
 use base_answers::Number;
-use identifier_rules::Own;
+use ownlist_rules::Own;
 ghost use mathlib.Core.Path.{_≡_};
 ghost use Prim.Native.Nat.{_+_, min};
 ghost use lib.ListN.{length};
 ghost use Rattle.base_sequences.specs.Stored.{cap};
-ghost use Rattle.identifier_rules.specs.Spelled.{linesOf, ownOfSpelled};
+ghost use Rattle.base_readers.specs.Lines.{linesOf};
+ghost use Rattle.ownlist_rules.specs.Spelled.{ownOfSpelled};
 ghost use Rattle.report_rules.specs.Report.{report};
 ghost use Rattle.blockreport_fields.specs.Addends.{bodyAddend, fieldAddend, placeAfter, ifRoom, bufferAfter};
 

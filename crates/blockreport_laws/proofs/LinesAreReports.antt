@@ -5,7 +5,7 @@ use mathlib.Core.Path.{_≡_}
 use mathlib.Core.List.{List, _++_}
 use lib.ListN.{length}
 use Rattle.lexis_rules.specs.Limits.{byteLimit}
-use Rattle.identifier_rules.specs.declared.Own.{Own}
+use Rattle.ownlist_rules.specs.declared.Own.{Own}
 use Rattle.report_rules.specs.Report.{report}
 use Rattle.report_laws.proofs.Rooms.{text-size}
 use Rattle.report_laws.proofs.Numbers.{when-told}

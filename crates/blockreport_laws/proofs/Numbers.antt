@@ -12,8 +12,8 @@ use lib.Seq.{drop-append-seam}
 use Rattle.lexis_rules.specs.Limits.{byteLimit}
 use Rattle.block_rules.specs.Fields.{fields}
 use Rattle.block_laws.proofs.Fields.{fields-numbers}
-use Rattle.identifier_rules.specs.OwnList.{ownList}
-use Rattle.identifier_laws.proofs.Entries.{list-five}
+use Rattle.ownlist_rules.specs.OwnList.{ownList}
+use Rattle.ownlist_laws.proofs.Entries.{list-five}
 use Rattle.blockreport_rules.specs.Reports.{Answer, fitted, orRefusal, reportFields, reports}
 use Rattle.blockreport_rules.specs.Answers.{answerOf, leaves}
 use Rattle.blockreport_rules.specs.Terms.{blockText, Known}

@@ -11,8 +11,8 @@ use Rattle.base_readers.specs.Parsers.{Got}
 use Rattle.text_decimals_rules.specs.Decimals.{digit, digits, decimal}
 use Rattle.lexis_rules.specs.Bytes.{alike}
 use Rattle.lexis_rules.specs.Limits.{byteLimit}
-use Rattle.identifier_rules.specs.declared.Own.{Own}
-use Rattle.identifier_rules.specs.declared.Own.the-variants.{Ours, Others, Unreadable}
+use Rattle.ownlist_rules.specs.declared.Own.{Own}
+use Rattle.ownlist_rules.specs.declared.Own.the-variants.{Ours, Others, Unreadable}
 use Rattle.identifier_rules.specs.Identifier.{identifier}
 use Rattle.report_rules.specs.Body.{Reading, unreadable, malformed, newer, noResult, results, reading}
 use Rattle.report_rules.specs.Report.{line}

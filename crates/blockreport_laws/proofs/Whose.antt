@@ -7,7 +7,7 @@ use Rattle.base_readers.specs.Texts.{bytes}
 use Rattle.base_readers.specs.Parsers.{Got}
 use Rattle.lexis_rules.specs.Bytes.{alike}
 use Rattle.block_rules.specs.Fields.{Field, nameOf, bodyOf, fields}
-use Rattle.identifier_rules.specs.declared.Own.{Own}
+use Rattle.ownlist_rules.specs.declared.Own.{Own}
 use Rattle.identifier_rules.specs.Identifier.{identifier}
 use Rattle.blockreport_rules.specs.Reports.{bodyLines, addition, additions, reportFields}
 

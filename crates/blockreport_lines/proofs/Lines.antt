@@ -7,8 +7,8 @@ use lib.ListN.{length}
 use Rattle.base_sequences.specs.Stored.{Clipped}
 use Rattle.base_sequences.proofs.Clips.{clipped-long, clipped-then}
 use Rattle.base_readers.specs.Texts.{bytes}
-use Rattle.identifier_rules.specs.declared.Own.{Own}
-use Rattle.identifier_rules.specs.declared.Own.the-variants.{Ours, Others, Unreadable}
+use Rattle.ownlist_rules.specs.declared.Own.{Own}
+use Rattle.ownlist_rules.specs.declared.Own.the-variants.{Ours, Others, Unreadable}
 use Rattle.report_rules.specs.Report.{line}
 use Rattle.text_decimals_rules.specs.Decimals.{decimal}
 use Rattle.blockreport_rules.specs.FieldLines.{wordOf, fieldLine}

@@ -2,7 +2,7 @@
 //
 // `put_line` is handed a buffer and a place in it, any place. It stores as much of the line as there is room for from there on, changes no other
 // byte, and returns the place after the whole line, at most the largest place, which no buffer reaches. Run on an empty buffer it only measures.
-use identifier_rules::Own;
+use ownlist_rules::Own;
 ghost use mathlib.Core.List.{_∷_};
 ghost use Rattle.base_sequences.specs.Stored.{Clipped};
 ghost use Rattle.text_decimals_rules.specs.Decimals.{decimal};

@@ -2,7 +2,7 @@
 use mathlib.Core.Path.{_≡_, refl}
 use mathlib.Core.List.{[], _∷_, map}
 use Rattle.base_readers.specs.Texts.{bytes}
-use Rattle.identifier_rules.specs.declared.Own.the-variants.{Ours, Others, Unreadable}
+use Rattle.ownlist_rules.specs.declared.Own.the-variants.{Ours, Others, Unreadable}
 use Rattle.text_decimals_rules.specs.Decimals.{decimal}
 use Rattle.blockreport_rules.specs.FieldLines.{fieldLine}
 use Rattle.blockreport_rules.proofs.Unfolding.{opened}

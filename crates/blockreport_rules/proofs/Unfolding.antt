@@ -1,6 +1,6 @@
 -- Every definition of the report of a block opened at once: `unfolding opened` lets a proof compute with all of them.
 use Rattle.block_rules.proofs.Examples as block
-use Rattle.identifier_rules.proofs.Examples as authserv
+use Rattle.ownlist_rules.proofs.Unfolding as authserv
 use Rattle.report_rules.proofs.Unfolding as body
 use Rattle.text_decimals_rules.specs.Decimals.{digits, decimal}
 use Rattle.blockreport_rules.specs.FieldLines.{wordOf, fieldLine}

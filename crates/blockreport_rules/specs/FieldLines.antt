@@ -3,8 +3,8 @@ use Prim.Native.Nat.{ℕ}
 use mathlib.Core.List.{List, [], _∷_}
 use Rattle.base_readers.specs.Texts.{bytes}
 use Rattle.text_decimals_rules.specs.Decimals.{decimal}
-use Rattle.identifier_rules.specs.declared.Own.{Own}
-use Rattle.identifier_rules.specs.declared.Own.the-variants.{Ours, Others, Unreadable}
+use Rattle.ownlist_rules.specs.declared.Own.{Own}
+use Rattle.ownlist_rules.specs.declared.Own.the-variants.{Ours, Others, Unreadable}
 use Rattle.report_rules.specs.Report.{line}
 
 -- whose the identifier of a field is, as a word

@@ -10,10 +10,10 @@ use Rattle.base_readers.specs.Walks.{Walked}
 use Rattle.lexis_rules.specs.Bytes.{alike}
 use Rattle.lexis_rules.specs.Limits.{byteLimit}
 use Rattle.block_rules.specs.Fields.{Field, nameOf, bodyOf, fields}
-use Rattle.identifier_rules.specs.declared.Own.{Own}
-use Rattle.identifier_rules.specs.OwnList.{ownList}
+use Rattle.ownlist_rules.specs.declared.Own.{Own}
+use Rattle.ownlist_rules.specs.OwnList.{ownList}
 use Rattle.identifier_rules.specs.Identifier.{identifier}
-use Rattle.identifier_rules.specs.Listed.{ownOf}
+use Rattle.ownlist_rules.specs.Listed.{ownOf}
 use Rattle.report_rules.specs.Body.{reading}
 use Rattle.report_rules.specs.ByCase.{numberOf, textOf, countOf}
 use Rattle.blockreport_rules.specs.FieldLines.{fieldLine}

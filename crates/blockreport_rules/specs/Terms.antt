@@ -5,8 +5,8 @@ use mathlib.Core.List.{List}
 use lib.ListN.{length}
 use Rattle.lexis_rules.specs.Limits.{byteLimit}
 use Rattle.block_rules.specs.Fields.{fields}
-use Rattle.identifier_rules.specs.OwnList.{ownList}
-use Rattle.identifier_rules.specs.Listed.{ownOf}
+use Rattle.ownlist_rules.specs.OwnList.{ownList}
+use Rattle.ownlist_rules.specs.Listed.{ownOf}
 use Rattle.blockreport_rules.specs.Reports.{additions}
 
 -- what the fields of a block add, by a list

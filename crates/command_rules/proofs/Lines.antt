@@ -6,7 +6,7 @@ use mathlib.Core.List.{List, _++_}
 use lib.ListN.{length}
 use borrow.Author.Tests.{le-leb, lt-leb, eq-eqb, ne-eqb}
 use Rattle.base_readers.specs.Texts.{bytes, same}
-use Rattle.identifier_rules.specs.OwnList.{entryLimit, longest}
+use Rattle.ownlist_rules.specs.OwnList.{entryLimit, longest}
 use Rattle.command_rules.specs.declared.Asked.the-variants.{Strip, Report, Explain, Judge, Write, Nothing}
 use Rattle.command_rules.specs.Words.{asked}
 use Rattle.command_rules.specs.Messages.{untilFeed, fault, faultAt, meaning, linesMeaning}

@@ -9,7 +9,7 @@ use lib.ListN.{length, take, drop}
 use Rattle.base_readers.specs.Texts.{bytes}
 use Rattle.base_readers.specs.Readers.{Reader, run}
 use Rattle.text_decimals_rules.specs.Decimals.{decimal}
-use Rattle.identifier_rules.specs.OwnList.{entryLimit, longest}
+use Rattle.ownlist_rules.specs.OwnList.{entryLimit, longest}
 use Rattle.command_rules.specs.declared.Ending.{Ending}
 use Rattle.command_rules.specs.declared.Ending.the-variants.{Done, Usage, ListClosed, ListUnread, InputUnread, InputTooLong, OutputTooLong, Unwritten, VerdictsRefused, Refused, LinesRefused}
 

@@ -13,10 +13,9 @@ use Rattle.base_sequences.specs.Stored.{Clipped}
 use Rattle.base_sequences.proofs.Clips.{Going, going-start, going-step, going-done}
 use Rattle.base_readers.specs.Readers.{run}
 use Rattle.base_readers.specs.Texts.{bytes}
-use Rattle.identifier_rules.specs.Spelled.{linesOf}
-use Rattle.identifier_rules.specs.Ends.{feedless, untilFeed}
+use Rattle.base_readers.specs.Lines.{linesOf, feedless, untilFeed}
 use Rattle.base_sequences.specs.Spans.{span}
-use Rattle.identifier_laws.proofs.Ends.{lines-none, line-inside, lines-at}
+use Rattle.ownlist_laws.proofs.Ends.{lines-none, line-inside, lines-at}
 use Rattle.explain_rules.specs.declared.Line.{Line}
 use Rattle.explain_rules.specs.declared.Line.the-variants.{Field, Identifier, Version, NoResult, Method, Reason, Property, Other}
 use Rattle.explain_rules.proofs.Line.{the-type}

@@ -10,7 +10,7 @@ ghost use mathlib.Core.List.{[], _∷_};
 ghost use Prim.Native.Nat.{_+_, min};
 ghost use lib.ListN.{length, drop};
 ghost use Rattle.base_sequences.specs.Stored.{Clipped};
-ghost use Rattle.identifier_rules.specs.Spelled.{linesOf};
+ghost use Rattle.base_readers.specs.Lines.{linesOf};
 ghost use Rattle.explain_rules.specs.Explained.{goesOn, ended, linesWords, explained};
 
 // Whether what a line says stands in the line before it.

@@ -4,7 +4,7 @@ use mathlib.Core.List.{[], _∷_}
 use Rattle.base_readers.specs.Texts.{bytes, within, same}
 use Rattle.base_readers.specs.Readers.{run}
 use Rattle.lexis_rules.specs.Bytes.{inClass}
-use Rattle.identifier_rules.specs.Spelled.{linesOf}
+use Rattle.base_readers.specs.Lines.{linesOf}
 use Rattle.explain_rules.specs.Explained.{kindOf, kindOfLine, shown, text, whoseWords, answerWords, countWords, fieldWords, methodWords, propertyWords, words, goesOn, ended, linesWords, explained}
 use Rattle.explain_rules.specs.declared.Line.the-variants.{Field, Identifier, Version, NoResult, Method, Reason, Property, Other}
 

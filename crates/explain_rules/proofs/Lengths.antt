@@ -10,8 +10,7 @@ use lib.Seq.{length-take-le}
 use Rattle.base_readers.specs.Readers.{run}
 use Rattle.base_readers.specs.Texts.{bytes, same}
 use Rattle.base_readers.proofs.Readers.{run-fits}
-use Rattle.punycode_rules.specs.Labels.{onFirst}
-use Rattle.identifier_rules.specs.Spelled.{linesOf}
+use Rattle.base_readers.specs.Lines.{onFirst, linesOf}
 use Rattle.explain_rules.specs.declared.Line.{Line}
 use Rattle.explain_rules.specs.declared.Line.the-variants.{Field, Identifier, Version, NoResult, Method, Reason, Property, Other}
 use Rattle.explain_rules.specs.Explained.{inColumn, column, behind, kindOfLine, shown, text, whoseWords, answerWords, countWords, fieldWords, methodWords, propertyWords, words, lineWords, goesOn, ended, linesWords}

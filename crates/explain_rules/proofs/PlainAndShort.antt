@@ -6,7 +6,7 @@ use mathlib.Core.Logic.{_⊎_}
 use mathlib.Core.List.{List, [], _∷_}
 use lib.ListN.{length, getD}
 use Rattle.base_readers.specs.Texts.{within}
-use Rattle.identifier_rules.specs.Spelled.{linesOf}
+use Rattle.base_readers.specs.Lines.{linesOf}
 use Rattle.explain_rules.specs.Explained.{explained}
 use Rattle.explain_rules.specs.Promise.{plain, added, fieldLines}
 use Rattle.explain_rules.proofs.Terminal.{AllPlain, all-at, plain-when, lines-plain}

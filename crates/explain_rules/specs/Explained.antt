@@ -11,7 +11,7 @@ use Rattle.base_readers.specs.Texts.{bytes, same}
 use Rattle.base_readers.specs.Readers.{run}
 use Rattle.lexis_rules.specs.declared.Class.the-variants.{Visible}
 use Rattle.lexis_rules.specs.Bytes.{inClass}
-use Rattle.identifier_rules.specs.Spelled.{linesOf}
+use Rattle.base_readers.specs.Lines.{linesOf}
 use Rattle.explain_rules.specs.declared.Line.{Line}
 use Rattle.explain_rules.specs.declared.Line.the-variants.{Field, Identifier, Version, NoResult, Method, Reason, Property, Other}
 

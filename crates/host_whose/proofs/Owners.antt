@@ -8,12 +8,13 @@ use lib.ListN.{length}
 use Rattle.base_readers.specs.Parsers.{Got}
 use Rattle.lexis_rules.specs.Limits.{byteLimit}
 use Rattle.punycode_rules.specs.Labels.{doubleHyphen}
-use Rattle.identifier_rules.specs.declared.Own.{Own}
-use Rattle.identifier_rules.specs.OwnList.{ownList}
+use Rattle.ownlist_rules.specs.declared.Own.{Own}
+use Rattle.ownlist_rules.specs.OwnList.{ownList}
 use Rattle.identifier_rules.specs.Identifier.{identifier}
-use Rattle.identifier_rules.specs.Listed.{ownOf}
-use Rattle.identifier_rules.specs.Spelled.{linesOf, ownOfSpelled}
-use Rattle.identifier_laws.proofs.Equality.{list-own, list-plain}
+use Rattle.ownlist_rules.specs.Listed.{ownOf}
+use Rattle.base_readers.specs.Lines.{linesOf}
+use Rattle.ownlist_rules.specs.Spelled.{ownOfSpelled}
+use Rattle.ownlist_laws.proofs.AsCompared.{list-own, list-plain}
 use Rattle.ownlist_check.specs.declared.Checked.the-variants.{Good, Bad}
 use Rattle.ownlist_check.specs.Steps.{checkedOf, numberOf, placeOf}
 use Rattle.ownlist_check.proofs.ListAnswers.{check-number, check-place}

@@ -1,12 +1,12 @@
 // Whose the identifier of a field body is, by a list that is checked first.
 use base_answers::Number;
 use host_whose_struct::WhoseFace;
-use identifier_rules::Own;
 use ownlist_check::Checked;
+use ownlist_rules::Own;
 ghost use mathlib.Core.Path.{_≡_};
-ghost use Rattle.identifier_rules.specs.OwnList.{ownList};
+ghost use Rattle.ownlist_rules.specs.OwnList.{ownList};
 ghost use Rattle.identifier_rules.specs.Identifier.{identifier};
-ghost use Rattle.identifier_rules.specs.Listed.{ownOf};
+ghost use Rattle.ownlist_rules.specs.Listed.{ownOf};
 ghost use Rattle.host_whose_struct.specs.Whose.{whose};
 
 // Whose the identifier of a body is, by a good list. One without two hyphens in a row is compared as it stands.

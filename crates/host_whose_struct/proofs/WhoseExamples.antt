@@ -5,7 +5,7 @@ use mathlib.Core.List.{List, [], _∷_, _++_, map}
 use lib.ListN.{length}
 use Rattle.base_readers.specs.Texts.{bytes}
 use Rattle.base_readers.proofs.Cases.{case, Says}
-use Rattle.identifier_rules.proofs.Examples as authserv
+use Rattle.ownlist_rules.proofs.Unfolding as authserv
 use Rattle.host_whose_struct.specs.declared.WhoseFace.{WhoseFace}
 use Rattle.host_whose_struct.specs.Whose.{whose}
 

@@ -9,9 +9,9 @@ use lib.ListN.{length}
 use Rattle.base_readers.specs.Texts.{bytes}
 use Rattle.base_readers.specs.Parsers.{Got, nothing, got}
 use Rattle.lexis_rules.specs.Limits.{byteLimit}
-use Rattle.identifier_rules.specs.OwnList.{ownList}
+use Rattle.ownlist_rules.specs.OwnList.{ownList}
 use Rattle.identifier_rules.specs.Identifier.{identifier}
-use Rattle.identifier_rules.specs.Listed.{among, ownIf, ownOf}
+use Rattle.ownlist_rules.specs.Listed.{among, ownIf, ownOf}
 use Rattle.strip_rules.specs.Strip.{oursOrUnreadable}
 use Rattle.host_whose_struct.specs.Whose.{ownerCode, whose}
 use Rattle.host_whose_struct.proofs.WhoseExamples.{opened}

@@ -5,11 +5,11 @@ use mathlib.Core.List.{List}
 use lib.Dec.{ltb}
 use lib.ListN.{length}
 use Rattle.lexis_rules.specs.Limits.{byteLimit}
-use Rattle.identifier_rules.specs.declared.Own.{Own}
-use Rattle.identifier_rules.specs.declared.Own.the-variants.{Ours, Others, Unreadable}
-use Rattle.identifier_rules.specs.OwnList.{ownList}
+use Rattle.ownlist_rules.specs.declared.Own.{Own}
+use Rattle.ownlist_rules.specs.declared.Own.the-variants.{Ours, Others, Unreadable}
+use Rattle.ownlist_rules.specs.OwnList.{ownList}
 use Rattle.identifier_rules.specs.Identifier.{identifier}
-use Rattle.identifier_rules.specs.Listed.{ownOf}
+use Rattle.ownlist_rules.specs.Listed.{ownOf}
 use Rattle.host_whose_struct.specs.declared.WhoseFace.{WhoseFace}
 
 -- 0 ours, 1 another's, 2 unreadable

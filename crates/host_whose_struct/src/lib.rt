@@ -2,7 +2,7 @@
 //
 // A struct is returned by value. On a refusal all but number and place are 0.
 use base_answers::Number;
-use identifier_rules::Own;
+use ownlist_rules::Own;
 ghost use mathlib.Core.Path.{_≡_};
 ghost use Rattle.host_whose_struct.specs.Whose.{ownerCode, refuseWhose, tellWhose};
 

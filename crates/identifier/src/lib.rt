@@ -46,7 +46,7 @@ fn token_from(s: &[u8], at: usize) -> usize
     i
 }
 
-// The same; one of ASCII alone ends where any token does.
+// The end of the token of an identifier; one of ASCII alone ends where any token does.
 fn identifier_token_end(s: &[u8], at: usize) -> usize
     ensures { λ r. ⌜ r ≡ at + identifierToken (drop at (now (s .entry))) ⌝ }
 {

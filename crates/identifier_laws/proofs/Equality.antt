@@ -1,5 +1,4 @@
--- 02, ticket [2]: what holds of the equality of identifiers, and of our own list as it is compared. Each theorem with premises has an instance
--- below it.
+-- 02, ticket [2]: what holds of the equality of identifiers. Each theorem with premises has an instance below it.
 use Prim.Native.Char.{code}
 use Prim.Native.Nat.{ℕ}
 use mathlib.Core.Path.{_≡_, refl, sym, ap, _∙_}
@@ -8,20 +7,15 @@ use mathlib.Core.List.{List, _∷_, _++_, map}
 use mathlib.Core.Option.{some}
 use lib.ListN.{drop}
 use Rattle.base_readers.specs.Texts.{bytes, oneOf}
-use Rattle.base_readers.specs.Parsers.{Got}
 use Rattle.base_readers.proofs.Texts.{same-refl, same-eq}
 use Rattle.lexis_rules.specs.Bytes.{lower, alike}
 use Rattle.punycode_rules.specs.Punycode.{basic}
 use Rattle.punycode_rules.specs.Unicode.{utf8s}
 use Rattle.punycode_rules.specs.Labels.{decoded, prefixed, labels, spelling, anyPrefixed, doubleHyphen}
 use Rattle.punycode_laws.proofs.SpellingTheorems.{spelling-plain, spelling-case, spelling-label}
-use Rattle.identifier_rules.specs.OwnList.{ownList}
 use Rattle.identifier_rules.specs.Identifier.{sameIdentifier}
-use Rattle.identifier_rules.specs.Listed.{ownOf}
-use Rattle.identifier_rules.specs.Spelled.{spelledList, linesOf, ownOfSpelled}
-use Rattle.identifier_laws.proofs.OwnLists as lists
 use Rattle.identifier_laws.proofs.Parts.{spelling-dot, lower-dot}
-use Rattle.identifier_rules.proofs.Examples.{opened}
+use Rattle.identifier_rules.proofs.Unfolding.{opened}
 
 -- ==== the equality
 
@@ -89,21 +83,3 @@ parts-instance : sameIdentifier (bytes "xn--bcher-kva.xn--bcher-kva") (98 ∷ 19
 parts-instance =
     identifier-parts (bytes "xn--bcher-kva") (98 ∷ 195 ∷ 188 ∷ bytes "cher") (bytes "xn--bcher-kva") (bytes "xn--bcher-kva") label-instance
     (identifier-reflexive (bytes "xn--bcher-kva"))
-
--- ==== our own list as it is compared
-
--- its lines are the spellings of the entries
-pub list-lines : (list : List ℕ) → linesOf (spelledList (ownList list .items)) ≡ map spelling (ownList list .items)
-list-lines = lists.list-lines
-
--- they tell whose an identifier is as the entries do
-pub list-own : (list : List ℕ) (g : Got (List ℕ)) → ownOfSpelled (linesOf (spelledList (ownList list .items))) g ≡ ownOf (ownList list .items) g
-list-own = lists.list-own
-
--- a good list without two hyphens in a row is compared as it stands
-pub list-plain : (list : List ℕ) → ownList list .number ≡ 0 → doubleHyphen list ≡ false → spelledList (ownList list .items) ≡ list
-list-plain = lists.list-plain
-
-list-instance : spelledList (ownList (bytes "a.example\nb-c\n") .items) ≡ bytes "a.example\nb-c\n"
-unfolding opened
-list-instance = list-plain (bytes "a.example\nb-c\n") refl refl

@@ -6,7 +6,8 @@ use mathlib.Core.List.{List, [], _∷_, _++_, map, append-assoc}
 use lib.Dec.{eqb}
 use Rattle.base_readers.specs.Texts.{within}
 use Rattle.lexis_rules.specs.Bytes.{lower}
-use Rattle.punycode_rules.specs.Labels.{onFirst, labels, joined, spelled, spelling}
+use Rattle.base_readers.specs.Lines.{onFirst}
+use Rattle.punycode_rules.specs.Labels.{labels, joined, spelled, spelling}
 use Rattle.punycode_laws.proofs.Spelling.{labels-some}
 
 labels-end : (c : ℕ) (t : List ℕ) → eqb c 46 ≡ true → labels (c ∷ t) ≡ [] ∷ labels t

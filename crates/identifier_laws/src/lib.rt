@@ -1,1 +1,1 @@
-// The laws and theorems of the identifier, the header version and our own list; no code.
+// The laws and theorems of the identifier and its equality; no code.

@@ -1,31 +1,17 @@
 -- Identifiers, their equality and header versions at worked examples, computed.
 use Prim.Native.Nat.{ℕ}
 use mathlib.Core.Path.{_≡_, refl}
-use mathlib.Core.Bool.{true, false}
+use mathlib.Core.Bool.{Bool, true, false}
 use mathlib.Core.List.{List, [], _∷_, _++_, map}
 use mathlib.Core.Option.{none, some}
-use Rattle.base_readers.specs.Texts.{bytes, within, oneOf, same, follows}
-use Rattle.base_readers.specs.Readers.{run, many, choose, between, passing, lasts}
-use Rattle.base_readers.specs.Parsers.{nothing, got, after, _>>=_, give, when, ahead, skipping, text, pass, optional}
-use Rattle.base_readers.specs.Walks.{walk}
+use lib.Dec.{eqb}
+use Rattle.base_readers.specs.Texts.{bytes}
+use Rattle.base_readers.specs.Parsers.{nothing, got, optional}
 use Rattle.base_readers.proofs.Cases.{case, Says}
-use Rattle.lexis_rules.specs.Bytes.{inClass, letter, lower, alike}
-use Rattle.lexis_rules.specs.Pieces.{pair, fold, item, comment, leading, decimal}
-use Rattle.lexis_rules.specs.Words.{quotedText, valueText, counted, readDigits}
-use Rattle.punycode_rules.proofs.Unfolding as spellings
-use Rattle.identifier_rules.specs.Utf8.{lead, second, further, sequence}
-use Rattle.identifier_rules.specs.OwnList.{entryItem, entry, entryAt, ownList}
-use Rattle.identifier_rules.specs.declared.Own.the-variants.{Ours, Others}
+use Rattle.lexis_rules.proofs.ClassExamples.{range, members, figures, capitals, smalls}
 use Rattle.identifier_rules.specs.Identifier.{identifierByte, identifier, sameIdentifier}
 use Rattle.identifier_rules.specs.Version.{stated, headerVersion}
-use Rattle.identifier_rules.specs.Listed.{among, ownOf}
-use Rattle.identifier_rules.specs.Spelled.{lined, linesOf, amongLines, amongSpelled, ownOfSpelled}
-
-unfoldable pub opened : Unit {0}
-unfolding within oneOf same follows run many choose between passing lasts after _>>=_ give when ahead skipping text pass optional walk inClass letter
-    lower alike pair fold item comment leading decimal quotedText valueText counted readDigits spellings.opened lead second further sequence
-    entryItem entry entryAt identifierByte identifier sameIdentifier stated headerVersion among lined linesOf amongLines amongSpelled
-opened = tt
+use Rattle.identifier_rules.proofs.Unfolding.{opened}
 
 -- 01, Samples on each side, and what was decided where it leaves a choice
 identifiers :
@@ -125,18 +111,22 @@ other-equals :
 unfolding opened
 other-equals = refl
 
--- whose an identifier is, in both spellings on both sides
-owners :
-    map (λ (list : List ℕ). ownOf (ownList list .items) (identifier (bytes "\"xn--bcher-kva\"; none")))
-    ((umlaut ++ bytes "\n") ∷ bytes "a\nXN--BCHER-KVA\n" ∷ bytes "bcher-kva\n" ∷ (bytes "a\n" ++ (195 ∷ bytes "\nxn--bcher-kva\n")) ∷ [])
-    ≡ Ours ∷ Ours ∷ Others ∷ Others ∷ []
-unfolding opened
-owners = refl
+-- ==== which bytes
 
--- by the lines as they are compared: the last one may lack its LF
-line-owners :
-    map (λ (own : List ℕ). ownOfSpelled (linesOf own) (identifier (bytes "xn--bcher-kva; none")))
-    ((umlaut ++ bytes "\n") ∷ (bytes "a\n\n" ++ umlaut) ∷ bytes "xn--bcher-kva\n" ∷ [] ∷ [])
-    ≡ Ours ∷ Ours ∷ Others ∷ Others ∷ []
+-- the bytes of a token (01, Small pieces), and those from 128 up
+identifierBytes : members identifierByte ≡ bytes "!#$%&'*+-." ++ figures ++ capitals ++ bytes "^_`" ++ smalls ++ bytes "{|}~" ++ range 128 255
 unfolding opened
-line-owners = refl
+identifierBytes = refl
+
+-- an identifier is read of so many bytes
+abbrev reads : ℕ → List ℕ → Bool
+reads k xs = elim (identifier xs) [ nothing ↦ false | got i n ↦ eqb n k ]
+
+-- 01, Identifier and header version: the next thing is one of space, tab, CR, "(" or ";"
+followed : members (λ b. reads 1 (97 ∷ b ∷ [])) ≡ bytes "\t\r (;"
+unfolding opened
+followed = refl
+
+followedQuoted : members (λ b. reads 3 (bytes "\"a\"" ++ (b ∷ []))) ≡ bytes "\t\r (;"
+unfolding opened
+followedQuoted = refl

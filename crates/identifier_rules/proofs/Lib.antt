@@ -1,4 +1,2 @@
-pub mod ListExamples
+pub mod Unfolding
 pub mod Examples
-pub mod Utf8Examples
-pub mod SpelledExamples

@@ -1,7 +1,2 @@
-pub mod Utf8
-pub mod OwnList
 pub mod Identifier
 pub mod Version
-pub mod Listed
-pub mod Spelled
-pub mod Ends

@@ -21,6 +21,7 @@ pub fn in_class(c: Class, b: u8) -> bool
     classes::in_class(c, b)
 }
 
+// Whether the byte `k` places behind `at` is in a class.
 pub fn class_at(s: &[u8], at: usize, k: usize, c: Class) -> bool
     ensures { λ r. ⌜ r ≡ inClass c (getD (drop at (now (s .entry))) k 0) ⌝ }
 {

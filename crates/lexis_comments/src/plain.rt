@@ -48,7 +48,8 @@ fn plain_from(s: &[u8], at: usize) -> usize
     }
 }
 
-// The same, where there often is none: the first byte tells. Comments one inside the other and pairs pay for no wide test.
+// The end of a run of plain bytes of a comment, where there often is none: the first byte tells. Comments one inside the other and pairs pay for no wide
+// test.
 pub fn plain_end(s: &[u8], at: usize) -> usize
     ensures { λ r. ⌜ r ≡ at + run (inClass Class.Comment) (drop at (now (s .entry))) ⌝ }
 {

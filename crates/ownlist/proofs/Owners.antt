@@ -11,18 +11,19 @@ use lib.Seq.{getD-take, drop-drop, take-all}
 use Rattle.base_sequences.specs.Stored.{Put}
 use Rattle.base_sequences.proofs.Splices.{put-front, put-full}
 use Rattle.lexis_rules.specs.Words.{quotedText}
-use Rattle.identifier_rules.specs.OwnList.{ownList}
+use Rattle.ownlist_rules.specs.OwnList.{ownList}
 use Rattle.identifier.specs.declared.Identifier.the-variants as identifier
-use Rattle.identifier_rules.specs.declared.Own.{Own}
-use Rattle.identifier_rules.specs.declared.Own.the-variants as whose
+use Rattle.ownlist_rules.specs.declared.Own.{Own}
+use Rattle.ownlist_rules.specs.declared.Own.the-variants as whose
 use Rattle.identifier_rules.specs.Identifier as rules
 use Rattle.identifier.specs.Answers.{identifierAt, textOf}
-use Rattle.identifier_rules.specs.Listed.{ownIf, ownOf}
-use Rattle.identifier_rules.specs.Spelled.{spelledList, linesOf, amongSpelled, ownOfSpelled}
-use Rattle.identifier_rules.specs.Ends.{endsOf, cutAt}
+use Rattle.ownlist_rules.specs.Listed.{ownIf, ownOf}
+use Rattle.base_readers.specs.Lines.{linesOf}
+use Rattle.ownlist_rules.specs.Spelled.{spelledList, amongSpelled, ownOfSpelled}
+use Rattle.ownlist_rules.specs.Ends.{endsOf, cutAt}
 use Rattle.identifier.proofs.Identifiers.{identifier-found, identifier-not}
-use Rattle.identifier_laws.proofs.OwnLists.{list-own}
-use Rattle.identifier_laws.proofs.Ends.{cut-ends, part-ends, part-inside, orElse, own-both}
+use Rattle.ownlist_laws.proofs.OwnLists.{list-own}
+use Rattle.ownlist_laws.proofs.Ends.{cut-ends, part-ends, part-inside, orElse, own-both}
 
 module _ (lines : List (List ℕ)) (body : List ℕ) where
   pub whose-none : identifier.Unreadable ≡ identifierAt body → whose.Unreadable ≡ ownOfSpelled lines (rules.identifier body)

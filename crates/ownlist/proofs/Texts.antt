@@ -12,7 +12,7 @@ use Rattle.base_sequences.proofs.Splices.{put-front}
 use Rattle.punycode_rules.specs.Labels.{spelling, spellingLimit, doubleHyphen}
 use Rattle.punycode_laws.proofs.Lengths.{spelling-least}
 use Rattle.punycode_laws.proofs.SpellingTheorems.{spelling-single-hyphens}
-use Rattle.identifier_rules.specs.Spelled.{amongLines, amongSpelled}
+use Rattle.ownlist_rules.specs.Spelled.{amongLines, amongSpelled}
 use Rattle.ownlist_spelled.proofs.Spelt.{Spelt}
 
 module _ (lines : List (List ℕ)) (t : List ℕ) where

@@ -5,17 +5,18 @@
 // in a row is its own spelling. `whose_spelled` finds the ends itself. A list is taken up to its first bad entry; whether it has one is the
 // caller's to ask first (`ownlist_check::check_list`).
 use identifier::Identifier;
-use identifier_rules::Own;
 use ownlist_check::Entries;
+use ownlist_rules::Own;
 use punycode::Spelling;
 ghost use mathlib.Core.Path.{_≡_};
 ghost use lib.ListN.{drop};
 ghost use Rattle.lexis_rules.specs.Words.{quotedText};
-ghost use Rattle.identifier_rules.specs.OwnList.{ownList};
+ghost use Rattle.ownlist_rules.specs.OwnList.{ownList};
 ghost use Rattle.identifier_rules.specs.Identifier.{identifier};
-ghost use Rattle.identifier_rules.specs.Listed.{ownIf, ownOf};
-ghost use Rattle.identifier_rules.specs.Spelled.{linesOf, amongSpelled, ownOfSpelled};
-ghost use Rattle.identifier_rules.specs.Ends.{cutAt};
+ghost use Rattle.ownlist_rules.specs.Listed.{ownIf, ownOf};
+ghost use Rattle.base_readers.specs.Lines.{linesOf};
+ghost use Rattle.ownlist_rules.specs.Spelled.{amongSpelled, ownOfSpelled};
+ghost use Rattle.ownlist_rules.specs.Ends.{cutAt};
 
 // The most bytes of a text with such a spelling (`spelling-least` in punycode_laws/proofs/Lengths.antt).
 const UNSPELLED: usize = 11 * Spelling::LONGEST + 10;

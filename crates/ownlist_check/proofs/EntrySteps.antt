@@ -15,10 +15,10 @@ use Rattle.base_readers.proofs.Walks.{walk-item, walk-stop, walk-end}
 use Rattle.ownlist_check.specs.declared.Listed.{Listed}
 use Rattle.ownlist_check.specs.declared.Listed.the-variants.{Entry, End, Bad}
 use Rattle.ownlist_check.specs.declared.Checked.the-variants as checked
-use Rattle.identifier_rules.specs.OwnList.{entryLimit, longest, entryText, entry, entryAt, ownList}
+use Rattle.ownlist_rules.specs.OwnList.{entryLimit, longest, entryText, entry, entryAt, ownList}
 use Rattle.ownlist_check.specs.Steps.{listedOf, listedFrom, checkedOf}
 use Rattle.base_readers.proofs.Places.{behind-first}
-use Rattle.identifier_laws.proofs.Entries.{entry-fits, entry-is}
+use Rattle.ownlist_laws.proofs.Entries.{entry-fits, entry-is}
 
 -- ==== an entry
 

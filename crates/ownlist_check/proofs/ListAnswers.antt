@@ -3,8 +3,8 @@ use Prim.Native.Nat.{ℕ, zero, suc}
 use native.Mathlib.Omega.{arith}
 use mathlib.Core.Path.{_≡_, refl, sym, ap, _∙_}
 use mathlib.Core.List.{List}
-use Rattle.identifier_rules.specs.OwnList.{ownList}
-use Rattle.identifier_laws.proofs.Entries.{list-five}
+use Rattle.ownlist_rules.specs.OwnList.{ownList}
+use Rattle.ownlist_laws.proofs.Entries.{list-five}
 use Rattle.ownlist_check.specs.Steps.{checkedOf, numberOf, placeOf}
 
 pub check-number : (list : List ℕ) → numberOf (checkedOf (ownList list)) ≡ ownList list .number

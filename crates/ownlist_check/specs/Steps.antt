@@ -8,7 +8,7 @@ use Rattle.ownlist_check.specs.declared.Listed.{Listed}
 use Rattle.ownlist_check.specs.declared.Listed.the-variants as listed
 use Rattle.ownlist_check.specs.declared.Checked.{Checked}
 use Rattle.ownlist_check.specs.declared.Checked.the-variants as checked
-use Rattle.identifier_rules.specs.OwnList.{entryAt}
+use Rattle.ownlist_rules.specs.OwnList.{entryAt}
 
 -- ==== entries
 

@@ -2,7 +2,7 @@
 ghost use mathlib.Core.Path.{_≡_};
 ghost use Prim.Native.Nat.{_+_};
 ghost use lib.ListN.{drop};
-ghost use Rattle.identifier_rules.specs.OwnList.{entry, ownList};
+ghost use Rattle.ownlist_rules.specs.OwnList.{entry, ownList};
 ghost use Rattle.ownlist_check.specs.Steps.{freshEntries, listedAt, checkedOf};
 
 // Where a walk over a list of our own stands, and how many entries it has passed.

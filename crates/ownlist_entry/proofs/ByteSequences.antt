@@ -10,7 +10,7 @@ use Rattle.base_sequences.proofs.Booleans.{no-true}
 use Rattle.base_readers.specs.Texts.{within}
 use Rattle.lexis_rules.specs.declared.Class.the-variants.{Visible}
 use Rattle.lexis_rules.specs.Bytes.{inClass}
-use Rattle.identifier_rules.specs.Utf8.{lead, second, further, sequence}
+use Rattle.ownlist_rules.specs.Utf8.{lead, second, further, sequence}
 
 pub from-below : (a b x : ℕ) → x < a → false ≡ within a b x
 unfolding within

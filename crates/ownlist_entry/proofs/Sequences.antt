@@ -20,9 +20,9 @@ use Rattle.base_readers.proofs.Loops.{reaches-start, many-on, many-off, many-pa
 use Rattle.lexis_rules.specs.declared.Class.the-variants.{Visible}
 use Rattle.lexis_rules.specs.Bytes.{inClass}
 use Rattle.lexis_laws.proofs.Bytes.{class-zero}
-use Rattle.identifier_rules.specs.Utf8.{lead, second, further, sequence}
-use Rattle.identifier_rules.specs.OwnList.{visible, entryItem, entryText}
-use Rattle.identifier_laws.proofs.Entries.{lead-most}
+use Rattle.ownlist_rules.specs.Utf8.{lead, second, further, sequence}
+use Rattle.ownlist_rules.specs.OwnList.{visible, entryItem, entryText}
+use Rattle.ownlist_laws.proofs.Entries.{lead-most}
 use Rattle.ownlist_entry.proofs.ByteSequences.{sequence-none}
 
 -- no sequence starts below 128

@@ -3,7 +3,7 @@ use lexis_rules::Class;
 ghost use mathlib.Core.Path.{_≡_};
 ghost use Prim.Native.Nat.{_+_};
 ghost use lib.ListN.{drop};
-ghost use Rattle.identifier_rules.specs.OwnList.{entryText};
+ghost use Rattle.ownlist_rules.specs.OwnList.{entryText};
 
 mod utf8;
 mod visible;
@@ -23,7 +23,7 @@ fn text_from(s: &[u8], at: usize) -> usize
     }
 }
 
-// The same; an entry of ASCII alone ends with its first run.
+// The end of the text of an entry; one of ASCII alone ends with its first run.
 pub fn entry_text(s: &[u8], at: usize) -> usize
     ensures { λ r. ⌜ r ≡ at + entryText (drop at (now (s .entry))) ⌝ }
 {

@@ -4,7 +4,7 @@ ghost use mathlib.Core.Bool.{_||_};
 ghost use lib.Dec.{leb};
 ghost use lib.ListN.{getD, drop};
 ghost use Rattle.base_readers.specs.Texts.{within};
-ghost use Rattle.identifier_rules.specs.Utf8.{lead, second, sequence};
+ghost use Rattle.ownlist_rules.specs.Utf8.{lead, second, sequence};
 
 // Whether a byte is from a to b.
 fn is_from(a: u8, b: u8, x: u8) -> bool

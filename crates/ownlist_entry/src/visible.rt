@@ -6,7 +6,7 @@ ghost use Prim.Native.Nat.{_+_, _≤_};
 ghost use lib.ListN.{length, drop};
 ghost use Rattle.base_readers.specs.Places.{Reaches};
 ghost use Rattle.lexis_rules.specs.Bytes.{inClass};
-ghost use Rattle.identifier_rules.specs.OwnList.{visible};
+ghost use Rattle.ownlist_rules.specs.OwnList.{visible};
 
 // From 33 to 126.
 fn is_visible(b: u8) -> bool

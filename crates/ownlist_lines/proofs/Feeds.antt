@@ -11,9 +11,9 @@ use Rattle.base_sequences.specs.Stored.{Put}
 use Rattle.base_sequences.proofs.Splices.{Left, left-start, left-byte, left-done, wrote-count}
 use Rattle.base_readers.specs.Places.{Reaches}
 use Rattle.base_readers.proofs.Loops.{run-on, run-off, hits-on}
-use Rattle.identifier_rules.specs.Spelled.{linesOf}
-use Rattle.identifier_rules.specs.Ends.{feedless, untilFeed, endsFrom, endsOf}
-use Rattle.identifier_laws.proofs.Ends.{lines-none, ends-at}
+use Rattle.base_readers.specs.Lines.{linesOf, feedless, untilFeed}
+use Rattle.ownlist_rules.specs.Ends.{endsFrom, endsOf}
+use Rattle.ownlist_laws.proofs.Ends.{lines-none, ends-at}
 
 -- ==== where a line ends
 

@@ -12,9 +12,9 @@ use Rattle.base_sequences.proofs.Lists.{empty-is}
 use Rattle.base_readers.specs.Texts.{same}
 use Rattle.lexis_rules.specs.Bytes.{alike}
 use Rattle.lexis_laws.proofs.Bytes.{alike-long}
-use Rattle.identifier_rules.specs.Spelled.{amongLines}
-use Rattle.identifier_rules.specs.Ends.{cutAt}
-use Rattle.identifier_laws.proofs.Ends.{cut-inside}
+use Rattle.ownlist_rules.specs.Spelled.{amongLines}
+use Rattle.ownlist_rules.specs.Ends.{cutAt}
+use Rattle.ownlist_laws.proofs.Ends.{cut-inside}
 
 -- ==== a line by its places
 

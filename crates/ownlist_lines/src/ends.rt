@@ -6,7 +6,8 @@ ghost use lib.Dec.{eqb};
 ghost use lib.ListN.{length, drop};
 ghost use Rattle.base_sequences.specs.Stored.{Put};
 ghost use Rattle.base_readers.specs.Places.{Reaches};
-ghost use Rattle.identifier_rules.specs.Ends.{untilFeed, endsOf};
+ghost use Rattle.base_readers.specs.Lines.{untilFeed};
+ghost use Rattle.ownlist_rules.specs.Ends.{endsOf};
 
 fn is_feed(b: u8) -> bool
     ensures { λ r. ⌜ r ≡ eqb b 10 ⌝ }

@@ -4,8 +4,8 @@ ghost use Prim.Native.Nat.{_≤_, _<_, min};
 ghost use lib.ListN.{length, getD};
 ghost use Rattle.base_sequences.specs.Spans.{span};
 ghost use Rattle.lexis_rules.specs.Bytes.{alike};
-ghost use Rattle.identifier_rules.specs.Spelled.{amongLines};
-ghost use Rattle.identifier_rules.specs.Ends.{cutAt};
+ghost use Rattle.ownlist_rules.specs.Spelled.{amongLines};
+ghost use Rattle.ownlist_rules.specs.Ends.{cutAt};
 
 pub mod ends;
 

@@ -14,10 +14,11 @@ use Rattle.punycode.specs.Answers.{spellAnswer, spellStored}
 use Rattle.punycode.proofs.SpellingInFront.{spell-long, spell-length, spell-front, spell-room}
 use Rattle.punycode_laws.proofs.SpellingTheorems.{spelling-limit}
 use Rattle.ownlist_check.specs.declared.Listed.the-variants.{Entry, End, Bad}
-use Rattle.identifier_rules.specs.OwnList.{longest, ownList}
+use Rattle.ownlist_rules.specs.OwnList.{longest, ownList}
 use Rattle.ownlist_check.specs.Steps.{listedFrom}
 use Rattle.ownlist_check.proofs.EntrySteps.{RestEntries, Taken, entries-end, entries-bad, entries-next, taken-length}
-use Rattle.identifier_rules.specs.Spelled.{lined, spelledList}
+use Rattle.base_readers.specs.Lines.{lined}
+use Rattle.ownlist_rules.specs.Spelled.{spelledList}
 
 -- ==== a spelling that was written
 

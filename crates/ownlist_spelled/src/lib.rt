@@ -10,8 +10,8 @@ ghost use Prim.Native.Nat.{_≤_};
 ghost use lib.ListN.{length};
 ghost use Rattle.base_sequences.specs.Stored.{Put};
 ghost use Rattle.punycode_rules.specs.Labels.{spelling};
-ghost use Rattle.identifier_rules.specs.OwnList.{longest, ownList};
-ghost use Rattle.identifier_rules.specs.Spelled.{spelledList};
+ghost use Rattle.ownlist_rules.specs.OwnList.{longest, ownList};
+ghost use Rattle.ownlist_rules.specs.Spelled.{spelledList};
 
 pub mod room;
 

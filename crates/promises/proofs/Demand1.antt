@@ -11,7 +11,7 @@ use lib.Seq.{drop-append-seam}
 use Rattle.base_readers.specs.Texts.{oneOf}
 use Rattle.lexis_rules.specs.Limits.{byteLimit}
 use Rattle.block_rules.specs.Fields.{fieldLimit, fields, bytesOf}
-use Rattle.identifier_rules.specs.OwnList.{ownList}
+use Rattle.ownlist_rules.specs.OwnList.{ownList}
 use Rattle.strip_rules.specs.Terms as strip-told
 use Rattle.strip_laws.proofs.Numbers as strip-ways
 use Rattle.report_rules.specs.Body.{Head, newer, reading}

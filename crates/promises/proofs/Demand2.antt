@@ -11,7 +11,7 @@ use Rattle.base_readers.specs.Texts.{bytes}
 use Rattle.base_readers.proofs.Cases.{copies}
 use Rattle.lexis_rules.specs.Limits.{byteLimit}
 use Rattle.block_rules.specs.Fields.{Field, fields, bytesOf}
-use Rattle.identifier_rules.specs.OwnList.{ownList}
+use Rattle.ownlist_rules.specs.OwnList.{ownList}
 use Rattle.report_rules.specs.Body.{results, reading}
 use Rattle.report_rules.specs.Report.{idLine, lines, ignoredOf}
 use Rattle.result_rules.specs.Results.{Result}

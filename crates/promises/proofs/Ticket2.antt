@@ -13,7 +13,7 @@ use Rattle.punycode_rules.specs.Unicode.{utf8s}
 use Rattle.punycode_rules.specs.Labels.{decoded, prefixed, labels, anyPrefixed}
 use Rattle.identifier_rules.specs.Identifier.{sameIdentifier}
 use Rattle.identifier_laws.proofs.Equality as identifiers
-use Rattle.identifier_rules.proofs.Examples.{opened}
+use Rattle.ownlist_rules.proofs.Unfolding.{opened}
 
 -- ==== it is an equality
 

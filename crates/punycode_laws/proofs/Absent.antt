@@ -15,7 +15,8 @@ use Rattle.base_readers.specs.Readers.{run}
 use Rattle.base_readers.proofs.Readers.{run-more}
 use Rattle.punycode_rules.specs.Punycode.{State, start, last, more, digitOf, numbers, beforeLast, basic, consumed}
 use Rattle.punycode_rules.specs.Unicode.{utf8, utf8s}
-use Rattle.punycode_rules.specs.Labels.{decoded, prefixed, spelled, inLabel, onFirst, labels, joined, spelling}
+use Rattle.base_readers.specs.Lines.{onFirst}
+use Rattle.punycode_rules.specs.Labels.{decoded, prefixed, spelled, inLabel, labels, joined, spelling}
 use Rattle.punycode_laws.proofs.Lists.{absurd-some, lacks-append, lacks-take, lacks-drop, lacks-cons, lacks-first, lacks-rest, lacks-insert}
 use Rattle.punycode_laws.proofs.Decoding.{numbers-end, numbers-cut, by-cases, kept-some}
 use Rattle.punycode_laws.proofs.Basics.{decoded-yes, decoded-no}

@@ -12,7 +12,8 @@ use Rattle.base_readers.specs.Texts.{within, oneOf}
 use Rattle.lexis_rules.specs.Bytes.{lower}
 use Rattle.punycode_rules.specs.Punycode.{State, start, insert, last, more, digitOf, threshold, numbers, beforeLast, basic, consumed, punycode}
 use Rattle.punycode_rules.specs.Unicode.{scalar, scalars, utf8, utf8s}
-use Rattle.punycode_rules.specs.Labels.{kept, decoded, prefixed, spelled, onFirst, labels, joined, spelling}
+use Rattle.base_readers.specs.Lines.{onFirst}
+use Rattle.punycode_rules.specs.Labels.{kept, decoded, prefixed, spelled, labels, joined, spelling}
 use Rattle.punycode_laws.proofs.Digits.{within-inv, scalar-low}
 use Rattle.punycode_laws.proofs.Decoding.{kept-good, kept-bad, numbers-none, numbers-last, numbers-more}
 use Rattle.punycode_laws.proofs.Spelling.{spelled-plain, spelled-failed, spelled-some}

@@ -7,7 +7,8 @@ use lib.Dec.{eqb}
 use lib.ListN.{getD, take, drop}
 use Rattle.base_sequences.proofs.Booleans.{and-none}
 use Rattle.base_readers.specs.Texts.{oneOf}
-use Rattle.punycode_rules.specs.Labels.{prefixed, spelled, onFirst, labels, joined, spelling, anyPrefixed, doubleHyphen}
+use Rattle.base_readers.specs.Lines.{onFirst}
+use Rattle.punycode_rules.specs.Labels.{prefixed, spelled, labels, joined, spelling, anyPrefixed, doubleHyphen}
 use Rattle.punycode_laws.proofs.Lists.{or-false-left, or-false-right, or-both}
 use Rattle.punycode_laws.proofs.Spelling.{spelled-plain, joined-labels}
 

@@ -11,7 +11,8 @@ use lib.ListN.{length, take, drop, length-append, length-drop}
 use lib.Seq.{length-take-le}
 use borrow.Author.Tests.{leb-true, leb-false, eqb-true, eqb-false}
 use Rattle.punycode_rules.specs.Punycode.{State, start, last, more, digitOf, threshold, numbers, beforeLast, basic, consumed}
-use Rattle.punycode_rules.specs.Labels.{kept, decoded, prefixed, spelled, onFirst, labels, joined, spelling, spellingLimit}
+use Rattle.base_readers.specs.Lines.{onFirst}
+use Rattle.punycode_rules.specs.Labels.{kept, decoded, prefixed, spelled, labels, joined, spelling, spellingLimit}
 use Rattle.punycode_laws.proofs.Lists.{absurd-some}
 use Rattle.punycode_laws.proofs.Digits.{threshold-bounds}
 use Rattle.punycode_laws.proofs.Decoding.{numbers-cut, by-cases, kept-none, kept-some, digit-fails, counted, length-insert}

@@ -16,7 +16,8 @@ use Rattle.base_readers.specs.Places.{Reaches}
 use Rattle.base_readers.proofs.Readers.{run-more, run-fits}
 use Rattle.base_readers.proofs.Loops.{run-on, run-off}
 use Rattle.punycode_rules.specs.Unicode.{scalars, utf8s}
-use Rattle.punycode_rules.specs.Labels.{kept, decoded, prefixed, spelled, inLabel, onFirst, labels, joined, spelling}
+use Rattle.base_readers.specs.Lines.{onFirst}
+use Rattle.punycode_rules.specs.Labels.{kept, decoded, prefixed, spelled, inLabel, labels, joined, spelling}
 
 -- ==== the prefix
 

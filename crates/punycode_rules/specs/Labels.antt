@@ -6,6 +6,7 @@ use mathlib.Core.List.{List, [], _∷_, _++_, map}
 use mathlib.Core.Option.{Option, none, some}
 use lib.Dec.{eqb}
 use lib.ListN.{getD, drop}
+use Rattle.base_readers.specs.Lines.{onFirst}
 use Rattle.base_readers.specs.Texts.{bytes, oneOf}
 use Rattle.punycode_rules.specs.Punycode.{punycode}
 use Rattle.punycode_rules.specs.Unicode.{scalars, utf8s}
@@ -31,11 +32,6 @@ spelled l = elim (prefixed l) [ true ↦ (elim (decoded (drop 4 l)) [ none ↦ l
 -- the bytes of a label: all but "."
 unfoldable pub inLabel : ℕ → Bool
 inLabel x = not (eqb x (code "."))
-
--- a byte in front of the first label
-abbrev pub onFirst : ℕ → List (List ℕ) → List (List ℕ)
-onFirst x [] = (x ∷ []) ∷ []
-onFirst x (l ∷ ls) = (x ∷ l) ∷ ls
 
 -- the labels of a text, parted by "." before anything is decoded
 unfoldable pub labels : List ℕ → List (List ℕ)

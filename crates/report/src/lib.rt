@@ -90,7 +90,7 @@ fn put_payload(s: &[u8], at: usize, out: &mut [u8], to: usize) -> Reported
     }
 }
 
-// The same where it has to be asked first what follows the head.
+// What stands behind a head of version 1, if it is delimited.
 fn put_version_one(s: &[u8], at: usize, out: &mut [u8], to: usize) -> Reported
     requires { ⌜ (length (now s) ≤ byteLimit) × (to ≤ 2 ^ 32) ⌝ }
     ensures { λ r. ⌜ Behind (headed (record { identifier = []; version = bytes "1" }) (drop at (now (s .entry)))) (now (out .entry)) to (now (out .exit)) r ⌝ }
@@ -144,8 +144,8 @@ fn put_body(s: &[u8], a: usize, e: usize, quoted: bool, out: &mut [u8]) -> Repor
     put_headed(s, e, out, n)
 }
 
-// The same, with the answer: `out` is written only where all of it fits. The first pass runs on a buffer of its own, and so measures. What
-// fits that too is copied from it; else a second pass runs on as much of `out` as was measured.
+// The report of a body whose identifier stands from a up to e, and the answer: `out` is written only where all of it fits. The first pass runs on a
+// buffer of its own, and so measures. What fits that too is copied from it; else a second pass runs on as much of `out` as was measured.
 fn put_measured(s: &[u8], a: usize, e: usize, quoted: bool, out: &mut [u8]) -> Reported
     requires { ⌜ (length (now s) ≤ byteLimit) × (Identifier.Readable a e quoted ≡ identifierAt (now s)) ⌝ }
     ensures { λ r. ⌜ r ≡ answerOf (report (now (s .entry)) (length (now (out .entry)))) ⌝ }

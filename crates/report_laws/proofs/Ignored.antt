@@ -29,12 +29,12 @@ use Rattle.report_laws.proofs.Places.{Split, Found, places-found, word-
 -- ==== lines and count
 
 module _ (a : Result) (U : understood a ≡ false) where
-  lines-put : (x y : List Result) → lines (x ++ (a ∷ y)) ≡ lines (x ++ y)
+  pub lines-put : (x y : List Result) → lines (x ++ (a ∷ y)) ≡ lines (x ++ y)
   unfolding lines
   lines-put [] y = rw U
   lines-put (r ∷ x) y = rw (lines-put x y)
 
-  ignored-put : (x y : List Result) → ignoredOf (x ++ (a ∷ y)) ≡ suc (ignoredOf (x ++ y))
+  pub ignored-put : (x y : List Result) → ignoredOf (x ++ (a ∷ y)) ≡ suc (ignoredOf (x ++ y))
   unfolding ignoredOf
   ignored-put [] y = rw U (omega arith)
   ignored-put (r ∷ x) y = rw (ignored-put x y) (omega arith)
@@ -45,7 +45,7 @@ unfolding understood knownMethod knownVersion
 newer-ignored a ne = rw (not-one (a .methodspec .version) ne)
 
 -- the same lines, with one more ignored
-fitted-more : (room : ℕ) (out : List ℕ) (k : ℕ) → OneMore (fitted room 0 out (suc k)) (fitted room 0 out k)
+pub fitted-more : (room : ℕ) (out : List ℕ) (k : ℕ) → OneMore (fitted room 0 out (suc k)) (fitted room 0 out k)
 unfolding fitted refusal
 fitted-more room out k = go (leb (length out) room) refl
   where

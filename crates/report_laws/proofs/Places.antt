@@ -55,13 +55,13 @@ abbrev Sizes : ℕ → Parser Extent
 Sizes s = _>>=_ (sized result) (λ r. give (sizes s r))
 
 -- an extent is that of a result with the space before it
-record Spanned (xs : List ℕ) (z : Extent) (m : ℕ) : Type 0 where
-  what : Result
-  reads : resinfo xs ≡ got what m
-  gap : z .before ≡ space xs
-  sum : z .before + z .size ≡ m
+pub record Spanned (xs : List ℕ) (z : Extent) (m : ℕ) : Type 0 where
+  pub what : Result
+  pub reads : resinfo xs ≡ got what m
+  pub gap : z .before ≡ space xs
+  pub sum : z .before + z .size ≡ m
 
-extent-inv : (xs : List ℕ) (z : Extent) (m : ℕ) → extent xs ≡ got z m → Spanned xs z m
+pub extent-inv : (xs : List ℕ) (z : Extent) (m : ℕ) → extent xs ≡ got z m → Spanned xs z m
 unfolding extent
 extent-inv xs z m h =
     let v = bind-inv (sized skip) Sizes xs z m h in
@@ -81,7 +81,7 @@ extent-inv xs z m h =
       sum = omega (arith, s .is, r .is);
     }
 
-extent-is : (xs : List ℕ) (a : Result) (n : ℕ) → resinfo xs ≡ got a n → (z : Extent) × (extent xs ≡ got z n)
+pub extent-is : (xs : List ℕ) (a : Result) (n : ℕ) → resinfo xs ≡ got a n → (z : Extent) × (extent xs ≡ got z n)
 unfolding extent
 extent-is xs a n h =
     let v = resinfo-inv xs a n h in
@@ -93,7 +93,7 @@ extent-is xs a n h =
     let l : s + (v .size + 0) ≡ n = omega (arith, v .sum) in
     (z, bind-got (sized skip) Sizes xs s s z (v .size + 0) (sized-is skip xs tt s (skipping-is space xs s refl)) f ∙ rw l)
 
-extent-not : (xs : List ℕ) → resinfo xs ≡ nothing → extent xs ≡ nothing
+pub extent-not : (xs : List ℕ) → resinfo xs ≡ nothing → extent xs ≡ nothing
 extent-not xs h = go (extent xs) refl
   where
     go : (x : Got Extent) → extent xs ≡ x → extent xs ≡ nothing
@@ -178,7 +178,7 @@ around-cut b (z ∷ zs) n k h i p = go (λ n k h i p. around-cut b zs n k h i p)
 -- ==== the places beside the results of a body
 
 module _ (b : List ℕ) (h : Head) (n : ℕ) (e : head b ≡ got h n) where
-  places-is : (zs : List Extent) (k : ℕ) → several extent 0 (drop n b) ≡ got zs k → insertionPlaces b ≡ placesAround b n zs
+  pub places-is : (zs : List Extent) (k : ℕ) → several extent 0 (drop n b) ≡ got zs k → insertionPlaces b ≡ placesAround b n zs
   unfolding insertionPlaces
   places-is zs k f = rw (insertionPlaces, e, f)
 

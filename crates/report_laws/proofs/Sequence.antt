@@ -152,12 +152,12 @@ reads-inv rs xs n h =
     subst (λ (l : List Result). Reads xs l) (c .1) (several-reads (v .val) xs (v .fst) (v .reads) (c .0))
 
 -- where they end
-record Ended (xs : List ℕ) (rs : List Result) : Type 0 where
-  size : ℕ
-  reads : several resinfo 0 xs ≡ got rs size
-  closes : drop (space (drop size xs)) (drop size xs) ≡ []
+pub record Ended (xs : List ℕ) (rs : List Result) : Type 0 where
+  pub size : ℕ
+  pub reads : several resinfo 0 xs ≡ got rs size
+  pub closes : drop (space (drop size xs)) (drop size xs) ≡ []
 
-reads-several : {xs : List ℕ} {rs : List Result} → Reads xs rs → Ended xs rs
+pub reads-several : {xs : List ℕ} {rs : List Result} → Reads xs rs → Ended xs rs
 reads-several (over {xs} e) = record { size = 0; reads = several-none resinfo xs (over-none xs e); closes = e }
 reads-several (more {xs} {a} {n} {rs} e R) =
     let v = reads-several R in

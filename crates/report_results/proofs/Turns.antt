@@ -54,7 +54,7 @@ module _ {A : Type 0} (p : Parser A) (s : List ℕ) (i : ℕ) where
   unfolding optionAt
   option-some a e h = rw (optionAt, ← h)
 
-  end-some : (a : A) (e : ℕ) → got a e ≡ from p s i → optionEnd p s i ≡ e
+  pub end-some : (a : A) (e : ℕ) → got a e ≡ from p s i → optionEnd p s i ≡ e
   unfolding optionEnd
   end-some a e h = rw (optionEnd, ← h)
 
@@ -62,7 +62,7 @@ module _ {A : Type 0} (p : Parser A) (s : List ℕ) (i : ℕ) where
   unfolding optionAt
   option-missing h = rw (optionAt, ← h)
 
-  end-missing : nothing ≡ from p s i → optionEnd p s i ≡ i
+  pub end-missing : nothing ≡ from p s i → optionEnd p s i ≡ i
   unfolding optionEnd
   end-missing h = rw (optionEnd, ← h)
 
@@ -77,7 +77,7 @@ module _ {A : Type 0} (p : Parser A) (s : List ℕ) (i : ℕ) where
 
 -- the space behind the place i ends at g
 module _ (s : List ℕ) (i g : ℕ) (y : g ≡ spaced s i) where
-  reason-found : (a e : ℕ) (q : Bool) → Stated a e q ≡ reasonFrom s i g → got (textOf s a e q) e ≡ from reason s i
+  pub reason-found : (a e : ℕ) (q : Bool) → Stated a e q ≡ reasonFrom s i g → got (textOf s a e q) e ≡ from reason s i
   reason-found a e true h = ap (reasonGot s) (h ∙ ap (reasonFrom s i) y) ∙ reason-got s i
   reason-found a e false h = ap (reasonGot s) (h ∙ ap (reasonFrom s i) y) ∙ reason-got s i
 
@@ -204,7 +204,7 @@ module _ (known : Bool) (p : List ℕ) where
 
 -- where there is no method there is no result
 module _ (s : List ℕ) (a : ℕ) (h : method.Missing ≡ methodAt s a) where
-  none-read : nothing ≡ from bareResult s a
+  pub none-read : nothing ≡ from bareResult s a
   none-read = stops methodspec _ s a (at-none methodspec s a (method-not s a h))
 
   pub turn-missing : (to : ℕ) → turn.Missing ≡ turnAt s a to
@@ -223,7 +223,7 @@ module _ (s : List ℕ) (a b e : ℕ) (v : VersionNumber) (f g : ℕ) (h : metho
   abbrev whole : Result
   whole = record { methodspec = spec; reason = optionAt reason s g; properties = propertiesAt s g }
 
-  read-whole : got whole (endAt property s (optionEnd reason s g)) ≡ from bareResult s a
+  pub read-whole : got whole (endAt property s (optionEnd reason s g)) ≡ from bareResult s a
   read-whole =
       let k = optionEnd reason s g in
       let n = endAt property s k in

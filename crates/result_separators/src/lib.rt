@@ -25,7 +25,7 @@ pub fn separator_end(s: &[u8], at: usize, b: u8) -> usize
     separator_from(s, at, lexis_space::space_end(s, at), b)
 }
 
-// The same, where the space before the byte ends at `a`.
+// The place after a byte between parts, with the space behind it, where the space before it ends at `a`; `at` where there is no such byte.
 pub fn separator_from(s: &[u8], at: usize, a: usize, b: u8) -> usize
     ensures { λ r. ⌜ r ≡ separatedFrom b (now (s .entry)) at a ⌝ }
 {

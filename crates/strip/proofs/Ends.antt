@@ -11,15 +11,16 @@ use Rattle.base_sequences.proofs.Splices.{put-front}
 use Rattle.lexis_rules.specs.Limits.{byteLimit}
 use Rattle.ownlist_check.specs.declared.Checked.the-variants.{Good, Bad}
 use Rattle.block_rules.specs.Fields.{fields}
-use Rattle.identifier_rules.specs.OwnList.{entryLimit, ownList}
-use Rattle.identifier_rules.specs.Ends.{endsOf, cutAt}
-use Rattle.identifier_laws.proofs.Ends.{cut-ends, spelled-ends, good-ends}
-use Rattle.identifier_laws.proofs.Entries.{list-five}
+use Rattle.ownlist_rules.specs.OwnList.{entryLimit, ownList}
+use Rattle.ownlist_rules.specs.Ends.{endsOf, cutAt}
+use Rattle.ownlist_laws.proofs.Ends.{cut-ends, spelled-ends, good-ends}
+use Rattle.ownlist_laws.proofs.Entries.{list-five}
 use Rattle.ownlist_check.specs.Steps.{checkedOf}
 use Rattle.punycode_rules.specs.Labels.{doubleHyphen}
-use Rattle.identifier_rules.specs.Spelled.{spelledList, linesOf, amongSpelled}
-use Rattle.identifier_laws.proofs.OwnLists.{list-among}
-use Rattle.identifier_laws.proofs.Equality.{list-plain}
+use Rattle.base_readers.specs.Lines.{linesOf}
+use Rattle.ownlist_rules.specs.Spelled.{spelledList, amongSpelled}
+use Rattle.ownlist_laws.proofs.OwnLists.{list-among}
+use Rattle.ownlist_laws.proofs.AsCompared.{list-plain}
 use Rattle.strip_rules.specs.declared.Stripped.{Stripped}
 use Rattle.strip_rules.specs.Strip.{Answer, orRefusal, stripFields, strip}
 use Rattle.strip_rules.specs.Answers.{answerOf, leaves}

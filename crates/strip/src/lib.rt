@@ -17,10 +17,11 @@ use strip_rules::Stripped;
 ghost use mathlib.Core.Path.{_≡_};
 ghost use Prim.Native.Nat.{_≤_};
 ghost use lib.ListN.{length};
-ghost use Rattle.identifier_rules.specs.OwnList.{entryLimit, ownList};
-ghost use Rattle.identifier_rules.specs.Ends.{endsOf};
-ghost use Rattle.identifier_rules.specs.Listed.{among};
-ghost use Rattle.identifier_rules.specs.Spelled.{linesOf, amongSpelled};
+ghost use Rattle.ownlist_rules.specs.OwnList.{entryLimit, ownList};
+ghost use Rattle.ownlist_rules.specs.Ends.{endsOf};
+ghost use Rattle.ownlist_rules.specs.Listed.{among};
+ghost use Rattle.base_readers.specs.Lines.{linesOf};
+ghost use Rattle.ownlist_rules.specs.Spelled.{amongSpelled};
 ghost use Rattle.strip_rules.specs.Strip.{stripFields, strip};
 ghost use Rattle.strip_rules.specs.Answers.{answerOf, leaves};
 

@@ -6,10 +6,10 @@ use mathlib.Core.List.{List}
 use Rattle.base_readers.specs.Texts.{bytes}
 use Rattle.base_readers.specs.Parsers.{Got, nothing, got}
 use Rattle.lexis_rules.specs.Bytes.{alike}
-use Rattle.identifier_rules.specs.declared.Own.{Own}
+use Rattle.ownlist_rules.specs.declared.Own.{Own}
 use Rattle.identifier_rules.specs.Identifier.{identifier}
-use Rattle.identifier_rules.specs.Listed.{ownIf}
-use Rattle.identifier_rules.specs.Spelled.{amongSpelled, ownOfSpelled}
+use Rattle.ownlist_rules.specs.Listed.{ownIf}
+use Rattle.ownlist_rules.specs.Spelled.{amongSpelled, ownOfSpelled}
 use Rattle.strip_rules.specs.Strip.{oursOrUnreadable}
 use Rattle.strip_fields.specs.Sifting.{isDisowned}
 

@@ -6,8 +6,8 @@ use mathlib.Core.List.{List}
 use lib.ListN.{length}
 use Rattle.base_sequences.specs.Stored.{Wrote}
 use Rattle.block_rules.specs.Fields.{fields, bytesOf}
-use Rattle.identifier_rules.specs.declared.Own.{Own}
-use Rattle.identifier_rules.specs.declared.Own.the-variants as own
+use Rattle.ownlist_rules.specs.declared.Own.{Own}
+use Rattle.ownlist_rules.specs.declared.Own.the-variants as own
 use Rattle.strip_rules.specs.declared.Stripped.{Stripped}
 use Rattle.strip_rules.specs.Strip.{keptOf, removedOf}
 

@@ -2,14 +2,14 @@
 use base_answers::Number;
 use block::Next;
 use block::Walk;
-use identifier_rules::Own;
+use ownlist_rules::Own;
 use strip_rules::Stripped;
 ghost use mathlib.Core.Path.{_≡_};
 ghost use mathlib.Core.Bool.{_&&_};
 ghost use Rattle.base_readers.specs.Texts.{bytes};
 ghost use Rattle.lexis_rules.specs.Bytes.{alike};
-ghost use Rattle.identifier_rules.specs.Ends.{cutAt};
-ghost use Rattle.identifier_rules.specs.Spelled.{amongSpelled};
+ghost use Rattle.ownlist_rules.specs.Ends.{cutAt};
+ghost use Rattle.ownlist_rules.specs.Spelled.{amongSpelled};
 ghost use Rattle.strip_rules.specs.Strip.{oursOrUnreadable};
 ghost use Rattle.strip_fields.specs.Sifting.{isDisowned, Sifted};
 

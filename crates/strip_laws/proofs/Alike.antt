@@ -28,7 +28,7 @@ unless-same w f g h = go (w .number) refl
     go (suc n) e = rw e
 
 module _ (listed listed′ : List ℕ → Bool) (same : (i : List ℕ) → listed i ≡ listed′ i) where
-  same-goes : (f : Field) → isRemoved listed f ≡ isRemoved listed′ f
+  pub same-goes : (f : Field) → isRemoved listed f ≡ isRemoved listed′ f
   unfolding isRemoved oursOrUnreadable
   same-goes f = ap (λ (t : Bool). named (bytes "Authentication-Results") f && t) (go (identifier (bodyOf f)) refl)
     where
@@ -36,10 +36,10 @@ module _ (listed listed′ : List ℕ → Bool) (same : (i : List ℕ) → liste
       go nothing q = rw (oursOrUnreadable, q)
       go (got i n) q = rw (oursOrUnreadable, q) (same i)
 
-  same-gone : (fs : List Field) → removedOf listed fs ≡ removedOf listed′ fs
+  pub same-gone : (fs : List Field) → removedOf listed fs ≡ removedOf listed′ fs
   same-gone = same-select (isRemoved listed) (isRemoved listed′) same-goes
 
-  same-stays : (fs : List Field) → keptOf listed fs ≡ keptOf listed′ fs
+  pub same-stays : (fs : List Field) → keptOf listed fs ≡ keptOf listed′ fs
   same-stays = same-select (λ f. not (isRemoved listed f)) (λ f. not (isRemoved listed′ f)) (λ f. ap not (same-goes f))
 
   pub same-stripped : (block : List ℕ) (room : ℕ) → stripFields block listed room ≡ stripFields block listed′ room

@@ -12,9 +12,9 @@ use Rattle.base_readers.specs.Walks.{Walked}
 use Rattle.base_readers.specs.Parsers.{Got, nothing, got}
 use Rattle.block_rules.specs.Fields.{Field, bodyOf, named, select, fields, bytesOf}
 use Rattle.block_laws.proofs.Fields.{select-yes, select-no, fields-fine}
-use Rattle.identifier_rules.specs.OwnList.{ownList}
+use Rattle.ownlist_rules.specs.OwnList.{ownList}
 use Rattle.identifier_rules.specs.Identifier.{identifier, sameIdentifier}
-use Rattle.identifier_rules.specs.Listed.{among}
+use Rattle.ownlist_rules.specs.Listed.{among}
 use Rattle.strip_rules.specs.Strip.{oursOrUnreadable, isRemoved, keptOf, strip}
 use Rattle.strip_rules.specs.Answers.{leaves}
 use Rattle.strip_laws.proofs.Laws.{Listed, strip-sound}

@@ -10,8 +10,8 @@ use lib.Dec.{ltb}
 use lib.ListN.{length}
 use Rattle.lexis_rules.specs.Limits.{byteLimit}
 use Rattle.block_rules.specs.Fields.{Field, fields, bytesOf}
-use Rattle.identifier_rules.specs.OwnList.{ownList}
-use Rattle.identifier_rules.specs.Listed.{among}
+use Rattle.ownlist_rules.specs.OwnList.{ownList}
+use Rattle.ownlist_rules.specs.Listed.{among}
 use Rattle.strip_rules.specs.Strip.{removedOf, keptOf, done, fitted, orRefusal, stripFields, strip}
 
 -- which identifiers a list has

@@ -12,8 +12,8 @@ use lib.Seq.{drop-append-seam}
 use Rattle.lexis_rules.specs.Limits.{byteLimit}
 use Rattle.block_rules.specs.Fields.{fields, bytesOf}
 use Rattle.block_laws.proofs.Fields.{fields-numbers}
-use Rattle.identifier_rules.specs.OwnList.{ownList}
-use Rattle.identifier_laws.proofs.Entries.{list-five}
+use Rattle.ownlist_rules.specs.OwnList.{ownList}
+use Rattle.ownlist_laws.proofs.Entries.{list-five}
 use Rattle.strip_rules.specs.Strip.{Answer, done, fitted, orRefusal, stripFields, strip}
 use Rattle.strip_rules.specs.Answers.{leaves}
 use Rattle.strip_rules.specs.Terms.{keptFields, removedFields, Known}

@@ -9,10 +9,10 @@ use lib.ListN.{length}
 use Rattle.base_readers.specs.Walks.{Walked}
 use Rattle.lexis_rules.specs.Limits.{byteLimit}
 use Rattle.block_rules.specs.Fields.{Field, fields, bytesOf}
-use Rattle.identifier_rules.specs.OwnList.{ownList}
+use Rattle.ownlist_rules.specs.OwnList.{ownList}
 use Rattle.block_laws.proofs.Fields.{fields-fine, select-fields, select-sum, select-again, select-none}
 use Rattle.identifier_rules.specs.Identifier.{sameIdentifier}
-use Rattle.identifier_rules.specs.Listed.{among}
+use Rattle.ownlist_rules.specs.Listed.{among}
 use Rattle.strip_rules.specs.Strip.{isRemoved, removedOf, keptOf, Answer, refuse, fitted, orRefusal, stripFields, strip}
 use Rattle.strip_rules.specs.Answers.{leaves}
 use Rattle.strip_laws.proofs.Laws.{Listed, strip-to, strip-is, strip-sound}

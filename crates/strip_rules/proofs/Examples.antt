@@ -6,7 +6,7 @@ use lib.ListN.{length}
 use Rattle.base_readers.specs.Texts.{bytes}
 use Rattle.base_readers.proofs.Cases.{case, Says}
 use Rattle.block_rules.proofs.Examples as block
-use Rattle.identifier_rules.proofs.Examples as authserv
+use Rattle.ownlist_rules.proofs.Unfolding as authserv
 use Rattle.strip_rules.specs.Strip.{oursOrUnreadable, isRemoved, Answer, fitted, stripFields, strip}
 use Rattle.strip_rules.specs.Answers.{answerOf, leaves}
 

@@ -9,9 +9,9 @@ use Rattle.base_readers.specs.Parsers.{nothing, got}
 use Rattle.base_readers.specs.Walks.{Walked}
 use Rattle.lexis_rules.specs.Limits.{byteLimit}
 use Rattle.block_rules.specs.Fields.{Field, bodyOf, named, fields, bytesOf, select}
-use Rattle.identifier_rules.specs.OwnList.{ownList}
+use Rattle.ownlist_rules.specs.OwnList.{ownList}
 use Rattle.identifier_rules.specs.Identifier.{identifier}
-use Rattle.identifier_rules.specs.Listed.{among}
+use Rattle.ownlist_rules.specs.Listed.{among}
 
 -- whose identifier is unreadable or listed. The rest of the body doesn't matter
 unfoldable pub oursOrUnreadable : (List ℕ → Bool) → List ℕ → Bool

@@ -5,8 +5,8 @@ use mathlib.Core.List.{List}
 use lib.ListN.{length}
 use Rattle.lexis_rules.specs.Limits.{byteLimit}
 use Rattle.block_rules.specs.Fields.{Field, fields}
-use Rattle.identifier_rules.specs.OwnList.{ownList}
-use Rattle.identifier_rules.specs.Listed.{among}
+use Rattle.ownlist_rules.specs.OwnList.{ownList}
+use Rattle.ownlist_rules.specs.Listed.{among}
 use Rattle.strip_rules.specs.Strip.{removedOf, keptOf}
 
 -- the fields of a block that stripping by a list keeps, and those that it removes

@@ -19,7 +19,7 @@ use Rattle.base_readers.proofs.Readers.{run-fits}
 use Rattle.base_readers.proofs.Loops.{run-off, run-out}
 use Rattle.lexis_rules.specs.Bytes.{alike}
 use Rattle.tag_rules.specs.Tags.{white, solid, trimmed}
-use Rattle.arc_rules.specs.Sets.{chainValue}
+use Rattle.tag_rules.specs.Needed.{chainValue}
 use Rattle.base_sequences.specs.Spans.{span}
 use Rattle.tag.proofs.TagParts.{inside}
 

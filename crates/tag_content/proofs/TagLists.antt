@@ -19,14 +19,14 @@ use Rattle.base_readers.specs.Places.{from, values, listAt, endAt}
 use Rattle.base_readers.specs.Locality.{Within}
 use Rattle.base_readers.proofs.Places.{goes-on, stops, gives, end-at, end-not}
 use Rattle.base_readers.proofs.Repeats.{list-is}
-use Rattle.arc_rules.proofs.Unfolding.{opened}
+use Rattle.tag_rules.proofs.Unfolding.{opened}
 use Rattle.tag_content.specs.declared.Collected.{Collected}
 use Rattle.tag_content.specs.declared.Collected.the-variants.{Sound, Unsound, Full}
 use Rattle.tag_content.specs.declared.Attempt.{Attempt}
 use Rattle.tag_content.specs.declared.Attempt.the-variants as attempt
 use Rattle.lexis_rules.specs.Limits.{byteLimit}
 use Rattle.tag_rules.specs.Tags.{Tag, tag, tags, named, needs, valueNamed, trimmed}
-use Rattle.arc_rules.specs.Sets.{chainValue, sound, signatureTags, isSignature, sealTags, isSeal}
+use Rattle.tag_rules.specs.Needed.{chainValue, sound, signatureTags, isSignature, sealTags, isSeal}
 use Rattle.tag_content.specs.Lists.{tagsAt, listTest, listSaid, listedAt}
 use Rattle.tag_names.specs.Names.{nameAt, Named, sameAt, holds, heldAt, allAt, sealAt}
 use Rattle.tag_names.proofs.Needed.{same-whole, held-named}

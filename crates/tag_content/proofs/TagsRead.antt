@@ -28,7 +28,7 @@ use Rattle.tag.specs.declared.Tag as told
 use Rattle.tag.specs.declared.Tag.the-variants as tagged
 use Rattle.tag_content.specs.declared.Collected.{Collected}
 use Rattle.tag_rules.specs.Tags.{inTagName, tagName, tagValue, trimmed, Tag, tag, named, unrepeated, valueNamed}
-use Rattle.arc_rules.specs.Sets.{chainValue, sound}
+use Rattle.tag_rules.specs.Needed.{chainValue, sound}
 use Rattle.tag.specs.Tags.{TagFound, tagAt}
 use Rattle.base_sequences.specs.Spans.{span}
 use Rattle.tag.proofs.TagParts.{tag-found}
@@ -38,7 +38,7 @@ use Rattle.tag_names.proofs.Fronts.{name-named}
 use Rattle.tag_names.proofs.Needed.{same-whole}
 use Rattle.tag_content.specs.Lists.{tagsAt}
 use Rattle.tag_content.specs.Tests.{kept, isHeld, cvAfter, endedAt, CollectedIf}
-use Rattle.arc_rules.proofs.Unfolding.{opened}
+use Rattle.tag_rules.proofs.Unfolding.{opened}
 
 -- ==== a tag takes two bytes at least: one of its name, and "="
 

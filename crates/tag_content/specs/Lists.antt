@@ -10,7 +10,7 @@ use Rattle.base_readers.specs.Parsers.{nothing, got}
 use Rattle.base_readers.specs.Places.{from, listAt}
 use Rattle.lexis_rules.specs.Limits.{byteLimit}
 use Rattle.tag_rules.specs.Tags.{Tag, tag, tags, valueNamed}
-use Rattle.arc_rules.specs.Sets.{chainValue, isSignature, isSeal}
+use Rattle.tag_rules.specs.Needed.{chainValue, isSignature, isSeal}
 
 -- the tags from a place on
 abbrev pub tagsAt : List ℕ → ℕ → List Tag

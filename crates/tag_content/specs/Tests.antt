@@ -14,7 +14,7 @@ use Rattle.tag_content.specs.declared.Collected.the-variants as collecte
 use Rattle.tag_content.specs.declared.Attempt.{Attempt}
 use Rattle.tag_content.specs.declared.Attempt.the-variants as attempt
 use Rattle.tag_rules.specs.Tags.{trimmed, tag, named, valueNamed}
-use Rattle.arc_rules.specs.Sets.{chainValue, sound, signatureTags}
+use Rattle.tag_rules.specs.Needed.{chainValue, sound, signatureTags}
 use Rattle.tag_names.specs.Names.{nameAt, sameAt, holds, allAt, sealAt}
 use Rattle.tag_content.specs.Lists.{tagsAt, listedAt}
 

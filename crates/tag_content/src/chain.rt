@@ -5,7 +5,7 @@ ghost use mathlib.Core.Bool.{true};
 ghost use Prim.Native.Nat.{_+_};
 ghost use Rattle.base_readers.specs.Readers.{run};
 ghost use Rattle.tag_rules.specs.Tags.{white, solid, trimmed};
-ghost use Rattle.arc_rules.specs.Sets.{chainValue};
+ghost use Rattle.tag_rules.specs.Needed.{chainValue};
 
 // Whether a byte is space.
 fn is_white(b: u8) -> bool

@@ -21,7 +21,7 @@ use Rattle.tag_list.specs.declared.linked.Sought.{Sought}
 use Rattle.tag_list.specs.declared.linked.Sought.the-variants as sought
 use Rattle.lexis_rules.specs.Limits.{byteLimit}
 use Rattle.tag_rules.specs.Tags.{tag}
-use Rattle.arc_rules.specs.Sets.{sound}
+use Rattle.tag_rules.specs.Needed.{sound}
 use Rattle.tag.specs.Tags.{TagFound}
 use Rattle.base_sequences.specs.Spans.{span}
 use Rattle.tag_names.specs.Names.{nameAt, Named, sameAt, holds, bucketOf}

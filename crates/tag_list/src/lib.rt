@@ -141,7 +141,7 @@ fn list_of_many(seal: bool, s: &[u8], at: usize) -> Listed
     }
 }
 
-// The same, with a table for some hundreds of tags first.
+// The tag list of a seal, or else of a signature, with a table for some hundreds of tags first.
 fn list_of_some(seal: bool, s: &[u8], at: usize) -> Listed
     requires { ⌜ length (now s) ≤ byteLimit ⌝ }
     ensures { λ r. ⌜ listedSaid r ≡ listedAt seal (now (s .entry)) at ⌝ }
@@ -154,7 +154,7 @@ fn list_of_some(seal: bool, s: &[u8], at: usize) -> Listed
     }
 }
 
-// The same. Most have few tags, so a small table is tried first; a long body of more tags has many, as a rule.
+// The tag list of a seal, or else of a signature. Most have few tags, so a small table is tried first; a long body of more tags has many, as a rule.
 fn list_within(seal: bool, s: &[u8], at: usize) -> Listed
     requires { ⌜ length (now s) ≤ byteLimit ⌝ }
     ensures { λ r. ⌜ listedSaid r ≡ listedAt seal (now (s .entry)) at ⌝ }

@@ -16,7 +16,7 @@ use Rattle.tag_list_ordered.specs.declared.seen.Slot.{Slot}
 use Rattle.tag_list_ordered.specs.declared.seen.Slot.the-variants.{Taken, Free}
 use Rattle.lexis_rules.specs.Limits.{byteLimit}
 use Rattle.tag_rules.specs.Tags.{tag}
-use Rattle.arc_rules.specs.Sets.{sound}
+use Rattle.tag_rules.specs.Needed.{sound}
 use Rattle.tag.specs.Tags.{TagFound}
 use Rattle.base_sequences.specs.Spans.{span}
 use Rattle.tag_names.specs.Names.{holds}

@@ -91,7 +91,8 @@ fn clear(table: &mut [u16])
     }
 }
 
-// The same. The table is left all zeros. It is full where the list has more tags than the table has entries.
+// The tag list of a seal, or else of a signature, from a place on, with a table for its names, which is left all zeros. It is full where the list has more
+// tags than the table has entries.
 pub fn try_list(seal: bool, s: &[u8], at: usize, table: &mut [u16]) -> Attempt
     ensures { λ r. ⌜ AttemptIf (length (now (table .entry)) < length (tagsAt (now (s .entry)) at)) seal (now (s .entry)) at r ⌝ }
     ensures { λ _. ⌜ now (table .exit) ≡ replicate (length (now (table .entry))) 0 ⌝ }

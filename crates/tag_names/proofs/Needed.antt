@@ -12,7 +12,7 @@ use lib.ListN.{length, getD, drop, drop-of-length-le}
 use lib.Seq.{drop-cons}
 use Rattle.base_sequences.proofs.Booleans.{or-left, or-right}
 use Rattle.base_readers.specs.Texts.{bytes, same}
-use Rattle.arc_rules.specs.Sets.{sealTags}
+use Rattle.tag_rules.specs.Needed.{sealTags}
 use Rattle.tag_names.specs.Names.{nameAt, Named, isSame, sameAt, holds, heldAt, allAt, sealAt}
 use Rattle.tag_names.proofs.Fronts.{compared-front, named-whole}
 use Rattle.tag_names.proofs.Ordering.{same-compared}

@@ -10,7 +10,7 @@ use Rattle.base_readers.specs.Readers.{run}
 use Rattle.tag_names.specs.declared.Order.{Order}
 use Rattle.tag_names.specs.declared.Order.the-variants.{Before, Same, After}
 use Rattle.tag_rules.specs.Tags.{inTagName}
-use Rattle.arc_rules.specs.Sets.{sealTags}
+use Rattle.tag_rules.specs.Needed.{sealTags}
 
 -- the name that starts at a place
 abbrev pub nameAt : List ℕ → ℕ → List ℕ

@@ -3,7 +3,7 @@
 //   is_signature(s, places)      whether the names at these places are those that a signature needs
 //   is_seal(s, places, cv)       the same for a seal, with the chain value of its cv
 ghost use mathlib.Core.Path.{_≡_};
-ghost use Rattle.arc_rules.specs.Sets.{signatureTags, sealTags};
+ghost use Rattle.tag_rules.specs.Needed.{signatureTags, sealTags};
 ghost use Rattle.tag_names.specs.Names.{heldAt, allAt, sealAt};
 
 // Whether a name stands at one of these places.

@@ -2,7 +2,7 @@
 ghost use mathlib.Core.Path.{_≡_};
 ghost use Rattle.base_readers.specs.Texts.{same};
 
-// The same length, and the same byte at each place.
+// Whether two texts are equal: of one length, with equal bytes at each place.
 pub fn is_same(a: &[u8], b: &[u8]) -> bool
     ensures { λ r. ⌜ r ≡ same (now (a .entry)) (now (b .entry)) ⌝ }
 {

@@ -1,3 +1,4 @@
 pub mod DigitsTell
 pub mod Digits
 pub mod Examples
+pub mod DigitBytes

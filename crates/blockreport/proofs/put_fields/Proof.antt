@@ -7,7 +7,8 @@ use lib.ListN.{length, drop}
 use Rattle.block.specs.declared.Next.the-variants.{Field}
 use Rattle.block.specs.Steps.{nextFrom}
 use Rattle.block.proofs.Steps.{Cut, step-field}
-use Rattle.identifier_rules.specs.Spelled.{linesOf, ownOfSpelled}
+use Rattle.base_readers.specs.Lines.{linesOf}
+use Rattle.ownlist_rules.specs.Spelled.{ownOfSpelled}
 use Rattle.blockreport.proofs.Passes.{Telling, telling-start, telling-end, telling-refused, telling-field}
 use Rattle.blockreport.proofs.put_fields.Statement.{statement}
 use Rattle.blockreport.proofs.put_fields.Tie as tie

@@ -4,7 +4,7 @@ use native.Mathlib.Omega.{arith}
 use lib.ListN.{length, drop}
 use borrow.Author.Needs.{needs}
 use Rattle.base_sequences.proofs.Clips.{Going}
-use Rattle.identifier_rules.specs.Spelled.{linesOf}
+use Rattle.base_readers.specs.Lines.{linesOf}
 use Rattle.explain_rules.specs.Explained.{linesWords}
 use Rattle.explain.proofs.Lines.{line-to, lines-start, lines-more, lines-done}
 use Rattle.explain.proofs.put_lines.Statement.{statement}

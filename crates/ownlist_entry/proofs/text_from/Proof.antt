@@ -4,7 +4,7 @@ use borrow.Author.Needs.{needs}
 use lib.ListN.{length}
 use Rattle.base_readers.specs.Places.{Reaches}
 use Rattle.base_readers.proofs.Loops.{reaches-start}
-use Rattle.identifier_rules.specs.OwnList.{entryText}
+use Rattle.ownlist_rules.specs.OwnList.{entryText}
 use Rattle.ownlist_entry.proofs.Sequences.{text-end, text-fits, text-less, text-more}
 use Rattle.ownlist_entry.proofs.text_from.Statement.{statement}
 use Rattle.ownlist_entry.proofs.text_from.Tie as tie

@@ -8,8 +8,8 @@ use lib.ListN.{length, drop}
 use Rattle.block.specs.declared.Next.the-variants.{Field}
 use Rattle.block.specs.Steps.{nextFrom}
 use Rattle.block.proofs.Steps.{Cut, step-field}
-use Rattle.identifier_rules.specs.Spelled.{amongSpelled}
-use Rattle.identifier_rules.specs.Ends.{cutAt}
+use Rattle.ownlist_rules.specs.Spelled.{amongSpelled}
+use Rattle.ownlist_rules.specs.Ends.{cutAt}
 use Rattle.strip_copy.proofs.Marking.{Marking, mark-start, mark-end, mark-refused, mark-gone, mark-kept}
 use Rattle.strip_copy.proofs.mark_gone.Statement.{statement}
 use Rattle.strip_copy.proofs.mark_gone.Tie as tie

@@ -7,8 +7,8 @@ use lib.ListN.{length, drop}
 use Rattle.block.specs.declared.Next.the-variants.{Field}
 use Rattle.block.specs.Steps.{nextFrom}
 use Rattle.block.proofs.Steps.{Cut, step-field}
-use Rattle.identifier_rules.specs.Spelled.{amongSpelled}
-use Rattle.identifier_rules.specs.Ends.{cutAt}
+use Rattle.ownlist_rules.specs.Spelled.{amongSpelled}
+use Rattle.ownlist_rules.specs.Ends.{cutAt}
 use Rattle.strip_fields.proofs.Sifting.{Sifting, put-kept-start, put-kept-end, put-kept-refused, put-kept-gone, put-kept-kept, bytes-long}
 use Rattle.strip_fields.proofs.put_kept.Statement.{statement}
 use Rattle.strip_fields.proofs.put_kept.Tie as tie

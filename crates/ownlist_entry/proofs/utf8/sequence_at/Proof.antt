@@ -1,7 +1,7 @@
 -- `ownlist_entry::utf8::sequence_at` meets its contract: one law for each way out.
 use mathlib.Core.Path.{ap, _∙_}
 use lib.ListN.{drop}
-use Rattle.identifier_rules.specs.Utf8.{second}
+use Rattle.ownlist_rules.specs.Utf8.{second}
 use Rattle.ownlist_entry.proofs.ByteSequences.{sequence-none, sequence-1, sequence-2, sequence-3, sequence-4}
 use borrow.Author.Needs.{needs}
 use Rattle.ownlist_entry.proofs.utf8.sequence_at.Statement.{statement}

@@ -6,7 +6,7 @@ use mathlib.Core.Bool.{false}
 use borrow.Author.Needs.{needs}
 use Rattle.base_readers.specs.Places.{Reaches}
 use Rattle.base_readers.proofs.Loops.{piece-none, piece-all, hits-on}
-use Rattle.identifier_rules.specs.OwnList.{visible}
+use Rattle.ownlist_rules.specs.OwnList.{visible}
 use Rattle.ownlist_entry.proofs.visible.has_other.Statement.{statement}
 use Rattle.ownlist_entry.proofs.visible.has_other.Tie as tie
 

@@ -7,7 +7,7 @@ use Rattle.base_readers.specs.Places.{Reaches}
 use Rattle.base_readers.proofs.Loops.{reaches-start, reaches-found, text-on}
 use Rattle.lexis_rules.specs.declared.Class.the-variants.{Visible}
 use Rattle.lexis_rules.specs.Bytes.{inClass}
-use Rattle.identifier_rules.specs.OwnList.{visible}
+use Rattle.ownlist_rules.specs.OwnList.{visible}
 use Rattle.ownlist_entry.proofs.visible.visible_end.Statement.{statement}
 use Rattle.ownlist_entry.proofs.visible.visible_end.Tie as tie
 

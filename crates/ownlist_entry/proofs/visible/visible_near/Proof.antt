@@ -5,7 +5,7 @@ use borrow.Author.Needs.{needs}
 use lib.ListN.{length}
 use Rattle.base_readers.specs.Places.{Reaches}
 use Rattle.base_readers.proofs.Loops.{reaches-start, run-on, run-off, run-out}
-use Rattle.identifier_rules.specs.OwnList.{visible}
+use Rattle.ownlist_rules.specs.OwnList.{visible}
 use Rattle.ownlist_entry.proofs.visible.visible_near.Statement.{statement}
 use Rattle.ownlist_entry.proofs.visible.visible_near.Tie as tie
 

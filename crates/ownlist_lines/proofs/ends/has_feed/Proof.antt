@@ -6,7 +6,7 @@ use mathlib.Core.Bool.{false}
 use borrow.Author.Needs.{needs}
 use Rattle.base_readers.specs.Places.{Reaches}
 use Rattle.base_readers.proofs.Loops.{piece-none, piece-all}
-use Rattle.identifier_rules.specs.Ends.{untilFeed}
+use Rattle.base_readers.specs.Lines.{untilFeed}
 use Rattle.ownlist_lines.proofs.Feeds.{feed-piece}
 use Rattle.ownlist_lines.proofs.ends.has_feed.Statement.{statement}
 use Rattle.ownlist_lines.proofs.ends.has_feed.Tie as tie

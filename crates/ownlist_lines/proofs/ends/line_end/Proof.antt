@@ -5,7 +5,7 @@ use borrow.Author.Needs.{needs}
 use lib.ListN.{length}
 use Rattle.base_readers.specs.Places.{Reaches}
 use Rattle.base_readers.proofs.Loops.{reaches-start, reaches-found, text-on}
-use Rattle.identifier_rules.specs.Ends.{feedless, untilFeed}
+use Rattle.base_readers.specs.Lines.{feedless, untilFeed}
 use Rattle.ownlist_lines.proofs.ends.line_end.Statement.{statement}
 use Rattle.ownlist_lines.proofs.ends.line_end.Tie as tie
 

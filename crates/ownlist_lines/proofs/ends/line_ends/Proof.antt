@@ -3,7 +3,7 @@ use Prim.Native.Nat.{_-_, _≤_}
 use native.Mathlib.Omega.{arith}
 use borrow.Author.Needs.{needs}
 use lib.ListN.{length}
-use Rattle.identifier_laws.proofs.Ends.{line-inside}
+use Rattle.ownlist_laws.proofs.Ends.{line-inside}
 use Rattle.ownlist_lines.proofs.Feeds.{Finding, find-start, find-end, find-more}
 use Rattle.ownlist_lines.proofs.ends.line_ends.Statement.{statement}
 use Rattle.ownlist_lines.proofs.ends.line_ends.Tie as tie

@@ -5,7 +5,7 @@ use borrow.Author.Needs.{needs}
 use lib.ListN.{length}
 use Rattle.base_readers.specs.Places.{Reaches}
 use Rattle.base_readers.proofs.Loops.{reaches-start, run-out}
-use Rattle.identifier_rules.specs.Ends.{untilFeed}
+use Rattle.base_readers.specs.Lines.{untilFeed}
 use Rattle.ownlist_lines.proofs.Feeds.{feed-on, feed-off}
 use Rattle.ownlist_lines.proofs.ends.near_feed.Statement.{statement}
 use Rattle.ownlist_lines.proofs.ends.near_feed.Tie as tie

@@ -19,13 +19,14 @@ use Rattle.lexis_laws.proofs.Bytes.{alike-long}
 use Rattle.punycode_rules.specs.Labels.{spelling, spellingLimit, doubleHyphen}
 use Rattle.punycode_laws.proofs.Hyphens.{doubleHyphen-drop, doubleHyphen-take}
 use Rattle.punycode_laws.proofs.SpellingTheorems.{spelling-single-hyphens, spelling-limit, spelling-lacks}
-use Rattle.identifier_rules.specs.OwnList.{entryLimit, longest, entryText, entry, entryAt, ownList}
-use Rattle.identifier_laws.proofs.Entries.{entry-fits, entry-is, entry-ends}
-use Rattle.identifier_laws.proofs.EntryBytes.{text-all}
+use Rattle.ownlist_rules.specs.OwnList.{entryLimit, longest, entryText, entry, entryAt, ownList}
+use Rattle.ownlist_laws.proofs.Entries.{entry-fits, entry-is, entry-ends}
+use Rattle.ownlist_laws.proofs.EntryBytes.{text-all}
 use Rattle.identifier_rules.specs.Identifier.{sameIdentifier}
-use Rattle.identifier_rules.specs.Listed.{among, ownIf, ownOf}
-use Rattle.identifier_rules.specs.Spelled.{lined, spelledList, linesOf, amongLines, amongSpelled, ownOfSpelled}
-use Rattle.identifier_laws.proofs.Feeds.{Feedless, none, more, lines-lined}
+use Rattle.ownlist_rules.specs.Listed.{among, ownIf, ownOf}
+use Rattle.base_readers.specs.Lines.{lined, linesOf}
+use Rattle.ownlist_rules.specs.Spelled.{spelledList, amongLines, amongSpelled, ownOfSpelled}
+use Rattle.base_readers.proofs.Lines.{Feedless, none, more, lines-lined}
 
 -- ==== what holds of each entry
 

@@ -12,15 +12,16 @@ use Rattle.base_readers.specs.Parsers.{Got, nothing, got}
 use Rattle.base_readers.proofs.Readers.{run-fits}
 use Rattle.lexis_rules.specs.Bytes.{alike}
 use Rattle.punycode_rules.specs.Labels.{spelling, spellingLimit}
-use Rattle.identifier_rules.specs.OwnList.{entryLimit, ownList}
-use Rattle.identifier_rules.specs.declared.Own.{Own}
-use Rattle.identifier_rules.specs.declared.Own.the-variants.{Ours, Others, Unreadable}
-use Rattle.identifier_rules.specs.Listed.{ownIf}
-use Rattle.identifier_rules.specs.Spelled.{spelledList, linesOf, amongLines, amongSpelled, ownOfSpelled}
-use Rattle.identifier_rules.specs.Ends.{feedless, untilFeed, endsFrom, endsOf, cutAt}
+use Rattle.ownlist_rules.specs.OwnList.{entryLimit, ownList}
+use Rattle.ownlist_rules.specs.declared.Own.{Own}
+use Rattle.ownlist_rules.specs.declared.Own.the-variants.{Ours, Others, Unreadable}
+use Rattle.ownlist_rules.specs.Listed.{ownIf}
+use Rattle.base_readers.specs.Lines.{linesOf, feedless, untilFeed}
+use Rattle.ownlist_rules.specs.Spelled.{spelledList, amongLines, amongSpelled, ownOfSpelled}
+use Rattle.ownlist_rules.specs.Ends.{endsFrom, endsOf, cutAt}
 use Rattle.base_sequences.specs.Spans.{span}
-use Rattle.identifier_laws.proofs.Feeds.{lines-first}
-use Rattle.identifier_laws.proofs.OwnLists.{spelled-few, good-few}
+use Rattle.base_readers.proofs.Lines.{lines-first}
+use Rattle.ownlist_laws.proofs.OwnLists.{spelled-few, good-few}
 
 -- ==== one line after the other
 

@@ -8,8 +8,8 @@ use Rattle.base_readers.specs.Readers.{run, many}
 use Rattle.base_readers.specs.Walks.{item, refused, Walked, walk}
 use Rattle.base_readers.proofs.Cases.{case, Says, copies}
 use Rattle.lexis_rules.specs.Bytes.{inClass}
-use Rattle.identifier_rules.specs.Utf8.{lead, second, further, sequence}
-use Rattle.identifier_rules.specs.OwnList.{entryLimit, longest, entryItem, entry, entryAt, ownList}
+use Rattle.ownlist_rules.specs.Utf8.{lead, second, further, sequence}
+use Rattle.ownlist_rules.specs.OwnList.{entryLimit, longest, entryItem, entry, entryAt, ownList}
 
 -- every definition opened at once
 unfoldable opened : Unit {0}

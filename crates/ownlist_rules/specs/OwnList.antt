@@ -9,7 +9,7 @@ use Rattle.base_readers.specs.Readers.{Reader, run, many}
 use Rattle.base_readers.specs.Walks.{Met, item, refused, Walked, walk}
 use Rattle.lexis_rules.specs.declared.Class.the-variants.{Visible}
 use Rattle.lexis_rules.specs.Bytes.{inClass}
-use Rattle.identifier_rules.specs.Utf8.{sequence}
+use Rattle.ownlist_rules.specs.Utf8.{sequence}
 
 -- 01, What the library is handed: 64 list entries of 1 to 255 bytes
 abbrev pub entryLimit : ℕ

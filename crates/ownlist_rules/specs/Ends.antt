@@ -1,21 +1,9 @@
 -- Where the lines of our own list end, so that they are found once for a whole block.
-use Prim.Native.Char.{code}
-use Prim.Native.Nat.{ℕ, suc, _+_, _-_}
-use mathlib.Core.Bool.{Bool, not}
+use Prim.Native.Nat.{ℕ, suc, _+_}
 use mathlib.Core.List.{List, [], _∷_}
-use lib.Dec.{eqb}
-use lib.ListN.{length, take, drop}
+use lib.ListN.{length}
 use Rattle.base_sequences.specs.Spans.{span}
-use Rattle.base_readers.specs.Readers.{Reader, run}
-use Rattle.identifier_rules.specs.Spelled.{linesOf}
-
--- any byte but LF
-unfoldable pub feedless : ℕ → Bool
-feedless x = not (eqb x (code "\n"))
-
--- what stands before the next LF, or the end
-abbrev pub untilFeed : Reader
-untilFeed = run feedless
+use Rattle.base_readers.specs.Lines.{linesOf}
 
 -- where texts end that stand one after the other from a place on, each with one byte behind it
 unfoldable pub endsFrom : ℕ → List (List ℕ) → List ℕ

@@ -5,9 +5,9 @@ use mathlib.Core.List.{[], _∷_}
 use lib.Dec.{leb, eqb}
 use Rattle.base_readers.specs.Texts.{bytes}
 use Rattle.lexis_rules.proofs.ClassExamples.{range, members}
-use Rattle.identifier_rules.specs.Utf8.{sequence}
-use Rattle.identifier_rules.specs.OwnList.{entry}
-use Rattle.identifier_rules.proofs.Examples.{opened}
+use Rattle.ownlist_rules.specs.Utf8.{sequence}
+use Rattle.ownlist_rules.specs.OwnList.{entry}
+use Rattle.ownlist_rules.proofs.Unfolding.{opened}
 
 -- the second byte of a sequence of two, in an entry
 entryTails : members (λ b. leb 1 (entry (0xC3 ∷ b ∷ bytes "\n"))) ≡ range 0x80 0xBF

@@ -1,30 +1,20 @@
 -- Our own list as it is compared: the spelling of each entry, ended by LF. It is made once for a whole block.
-use Prim.Native.Char.{code}
 use Prim.Native.Nat.{ℕ}
-use mathlib.Core.Bool.{Bool, true, false, _&&_, _||_}
-use mathlib.Core.List.{List, [], _∷_, _++_, map}
-use lib.Dec.{leb, eqb}
+use mathlib.Core.Bool.{Bool, false, _&&_, _||_}
+use mathlib.Core.List.{List, [], _∷_, map}
+use lib.Dec.{leb}
 use lib.ListN.{length}
 use Rattle.base_readers.specs.Parsers.{Got, nothing, got}
+use Rattle.base_readers.specs.Lines.{lined}
 use Rattle.lexis_rules.specs.Bytes.{alike}
-use Rattle.punycode_rules.specs.Labels.{spelling, onFirst, spellingLimit}
-use Rattle.identifier_rules.specs.declared.Own.{Own}
-use Rattle.identifier_rules.specs.declared.Own.the-variants.{Unreadable}
-use Rattle.identifier_rules.specs.Listed.{ownIf}
-
--- texts, each ended by LF
-unfoldable pub lined : List (List ℕ) → List ℕ
-lined [] = []
-lined (t ∷ ts) = t ++ (code "\n" ∷ lined ts)
+use Rattle.punycode_rules.specs.Labels.{spelling, spellingLimit}
+use Rattle.ownlist_rules.specs.declared.Own.{Own}
+use Rattle.ownlist_rules.specs.declared.Own.the-variants.{Unreadable}
+use Rattle.ownlist_rules.specs.Listed.{ownIf}
 
 -- the entries of a list as they are compared
 abbrev pub spelledList : List (List ℕ) → List ℕ
 spelledList own = lined (map spelling own)
-
--- the lines of any bytes: what stands before each LF, and behind the last one if there is something
-unfoldable pub linesOf : List ℕ → List (List ℕ)
-linesOf [] = []
-linesOf (x ∷ xs) = elim (eqb x (code "\n")) [ true ↦ [] ∷ linesOf xs | false ↦ onFirst x (linesOf xs) ]
 
 -- a text equals a line but for ASCII case
 unfoldable pub amongLines : List (List ℕ) → List ℕ → Bool
@@ -35,7 +25,7 @@ amongLines (l ∷ ls) t = alike l t || amongLines ls t
 unfoldable pub amongSpelled : List (List ℕ) → List ℕ → Bool
 amongSpelled lines i = leb (length (spelling i)) spellingLimit && amongLines lines (spelling i)
 
--- whose an identifier is, by such lines. For those of an own list it is what `ownOf` says of its entries (`list-own` in identifier_laws/proofs/Equality.antt)
+-- whose an identifier is, by such lines. For those of an own list it is what `ownOf` says of its entries (`list-own` in ownlist_laws/proofs/AsCompared.antt)
 abbrev pub ownOfSpelled : List (List ℕ) → Got (List ℕ) → Own
 ownOfSpelled lines nothing = Unreadable
 ownOfSpelled lines (got i n) = ownIf (amongSpelled lines i)

@@ -13,9 +13,9 @@ use Rattle.base_readers.specs.Readers.{Reader, many}
 use Rattle.base_readers.proofs.Texts.{all}
 use Rattle.lexis_rules.specs.declared.Class.the-variants.{Visible}
 use Rattle.lexis_rules.specs.Bytes.{inClass}
-use Rattle.identifier_rules.specs.Utf8.{lead, second, further, sequence}
-use Rattle.identifier_rules.specs.OwnList.{entryItem, entryText}
-use Rattle.identifier_laws.proofs.Entries.{lead-most}
+use Rattle.ownlist_rules.specs.Utf8.{lead, second, further, sequence}
+use Rattle.ownlist_rules.specs.OwnList.{entryItem, entryText}
+use Rattle.ownlist_laws.proofs.Entries.{lead-most}
 
 module _ (p : ℕ → Bool) where
   all-more : (x : ℕ) (xs : List ℕ) → p x ≡ true → all p xs ≡ true → all p (x ∷ xs) ≡ true

@@ -12,9 +12,9 @@ use Rattle.base_sequences.proofs.Booleans.{and-left, and-right, cond-le}
 use Rattle.base_readers.specs.Locality.{Fits}
 use Rattle.base_readers.specs.Walks.{walk}
 use Rattle.base_readers.proofs.Readers.{there}
-use Rattle.identifier_rules.specs.OwnList.{entryLimit, longest, entryText, entry, entryAt, ownList}
+use Rattle.ownlist_rules.specs.OwnList.{entryLimit, longest, entryText, entry, entryAt, ownList}
 use Rattle.base_readers.specs.Texts.{within}
-use Rattle.identifier_rules.specs.Utf8.{lead}
+use Rattle.ownlist_rules.specs.Utf8.{lead}
 
 -- ==== an entry
 

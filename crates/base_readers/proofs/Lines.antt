@@ -8,11 +8,9 @@ use lib.Dec.{eqb}
 use lib.ListN.{length, take, drop}
 use borrow.Author.Tests.{eq-eqb, ne-eqb}
 use Rattle.base_sequences.proofs.Booleans.{no-true}
 use Rattle.base_readers.specs.Texts.{oneOf}
 use Rattle.base_readers.specs.Readers.{run}
-use Rattle.punycode_rules.specs.Labels.{onFirst}
-use Rattle.identifier_rules.specs.Spelled.{lined, linesOf}
-use Rattle.identifier_rules.specs.Ends.{feedless, untilFeed}
+use Rattle.base_readers.specs.Lines.{lined, onFirst, linesOf, feedless, untilFeed}
 
 -- ==== one line after the other
 

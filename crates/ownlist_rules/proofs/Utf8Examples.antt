@@ -1,37 +1,15 @@
--- 02, ticket [2]: the bytes of an identifier and of a list's entry, and RFC 3629, section 4, byte by byte, computed.
+-- 02, ticket [2]: the bytes of a list's entry, and RFC 3629, section 4, byte by byte, computed.
 use Prim.Native.Nat.{ℕ}
 use mathlib.Core.Path.{_≡_, refl}
 use mathlib.Core.Bool.{Bool, true, false}
 use mathlib.Core.List.{List, [], _∷_, _++_, map}
 use lib.Dec.{leb, eqb}
 use Rattle.base_readers.specs.Texts.{bytes}
-use Rattle.base_readers.specs.Parsers.{nothing, got}
 use Rattle.base_readers.proofs.Cases.{copies}
-use Rattle.lexis_rules.proofs.ClassExamples.{range, members, figures, capitals, smalls}
-use Rattle.identifier_rules.specs.Utf8.{lead, tail, second, sequence}
-use Rattle.identifier_rules.specs.OwnList.{entry}
-use Rattle.identifier_rules.specs.Identifier.{identifierByte, identifier}
-use Rattle.identifier_rules.proofs.Examples.{opened}
-
--- ==== identifiers
-
--- the bytes of a token (01, Small pieces), and those from 128 up
-identifierBytes : members identifierByte ≡ bytes "!#$%&'*+-." ++ figures ++ capitals ++ bytes "^_`" ++ smalls ++ bytes "{|}~" ++ range 128 255
-unfolding opened
-identifierBytes = refl
-
--- an identifier is read of so many bytes
-abbrev reads : ℕ → List ℕ → Bool
-reads k xs = elim (identifier xs) [ nothing ↦ false | got i n ↦ eqb n k ]
-
--- 01, Identifier and header version: the next thing is one of space, tab, CR, "(" or ";"
-followed : members (λ b. reads 1 (97 ∷ b ∷ [])) ≡ bytes "\t\r (;"
-unfolding opened
-followed = refl
-
-followedQuoted : members (λ b. reads 3 (bytes "\"a\"" ++ (b ∷ []))) ≡ bytes "\t\r (;"
-unfolding opened
-followedQuoted = refl
+use Rattle.lexis_rules.proofs.ClassExamples.{range, members}
+use Rattle.ownlist_rules.specs.Utf8.{lead, tail, second, sequence}
+use Rattle.ownlist_rules.specs.OwnList.{entry}
+use Rattle.ownlist_rules.proofs.Unfolding.{opened}
 
 -- ==== entries
 

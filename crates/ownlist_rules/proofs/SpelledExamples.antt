@@ -6,11 +6,14 @@ use mathlib.Core.List.{List, [], _∷_, _++_, map}
 use Rattle.base_readers.specs.Texts.{bytes}
 use Rattle.base_readers.specs.Parsers.{nothing, got}
 use Rattle.base_readers.proofs.Cases.{case, Says, copies}
-use Rattle.identifier_rules.specs.declared.Own.the-variants.{Ours, Others, Unreadable}
-use Rattle.identifier_rules.specs.Listed.{among, ownOf}
-use Rattle.identifier_rules.specs.Spelled.{lined, spelledList, linesOf, amongLines, amongSpelled, ownOfSpelled}
-use Rattle.identifier_rules.specs.Ends.{endsFrom, endsOf, cutAt}
-use Rattle.identifier_rules.proofs.Examples.{opened}
+use Rattle.ownlist_rules.specs.declared.Own.the-variants.{Ours, Others, Unreadable}
+use Rattle.identifier_rules.specs.Identifier.{identifier}
+use Rattle.ownlist_rules.specs.OwnList.{ownList}
+use Rattle.ownlist_rules.specs.Listed.{among, ownOf}
+use Rattle.base_readers.specs.Lines.{linesOf}
+use Rattle.ownlist_rules.specs.Spelled.{spelledList, amongLines, amongSpelled, ownOfSpelled}
+use Rattle.ownlist_rules.specs.Ends.{endsFrom, endsOf, cutAt}
+use Rattle.ownlist_rules.proofs.Unfolding.{opened}
 
 abbrev umlaut : List ℕ
 umlaut = bytes "b" ++ (0xC3 ∷ 0xBC ∷ bytes "cher")
@@ -39,29 +42,12 @@ owners = refl
 
 -- ==== by lines
 
--- texts, each ended by LF
-lines : map lined ([] ∷ (bytes "a" ∷ []) ∷ (bytes "a" ∷ [] ∷ bytes "b" ∷ []) ∷ []) ≡ [] ∷ bytes "a\n" ∷ bytes "a\n\nb\n" ∷ []
-unfolding opened
-lines = refl
-
 -- the entries as they are compared: U-labels, and case as it is
 spelledLists : spelledList (bytes "XN--bcher-kva.Example" ∷ bytes "b" ∷ []) ≡ umlaut ++ bytes ".Example\nb\n"
 unfolding opened
 spelledLists = refl
 
--- the lines of any bytes
-linesOfs :
-    Says linesOf
-    (case [] []
-    ∷ case (bytes "a\nbc\n") (bytes "a" ∷ bytes "bc" ∷ [])
-    ∷ case (bytes "a\nbc") (bytes "a" ∷ bytes "bc" ∷ [])
-    ∷ case (bytes "\n\na") ([] ∷ [] ∷ bytes "a" ∷ [])
-    ∷ case (bytes "a\r\n") (bytes "a\r" ∷ [])
-    ∷ [])
-unfolding opened
-linesOfs = refl
-
--- where they end: at their LF, or at the end of the bytes
+-- where lines end: at their LF, or at the end of the bytes
 ends :
     Says endsOf
     (case [] []
@@ -100,3 +86,19 @@ longSpellings = refl
 lineOwners : map (ownOfSpelled (bytes "a" ∷ bytes "b" ∷ [])) (got (bytes "A") 1 ∷ got (bytes "b") 7 ∷ got (bytes "c") 1 ∷ nothing ∷ []) ≡ Ours ∷ Ours ∷ Others ∷ Unreadable ∷ []
 unfolding opened
 lineOwners = refl
+
+-- whose an identifier is, in both spellings on both sides
+bothSpellings :
+    map (λ (list : List ℕ). ownOf (ownList list .items) (identifier (bytes "\"xn--bcher-kva\"; none")))
+    ((umlaut ++ bytes "\n") ∷ bytes "a\nXN--BCHER-KVA\n" ∷ bytes "bcher-kva\n" ∷ (bytes "a\n" ++ (195 ∷ bytes "\nxn--bcher-kva\n")) ∷ [])
+    ≡ Ours ∷ Ours ∷ Others ∷ Others ∷ []
+unfolding opened
+bothSpellings = refl
+
+-- by the lines as they are compared: the last one may lack its LF
+bothLines :
+    map (λ (own : List ℕ). ownOfSpelled (linesOf own) (identifier (bytes "xn--bcher-kva; none")))
+    ((umlaut ++ bytes "\n") ∷ (bytes "a\n\n" ++ umlaut) ∷ bytes "xn--bcher-kva\n" ∷ [] ∷ [])
+    ≡ Ours ∷ Ours ∷ Others ∷ Others ∷ []
+unfolding opened
+bothLines = refl

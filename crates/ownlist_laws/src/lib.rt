@@ -1,0 +1,1 @@
+// The laws and theorems of our own list; no code.

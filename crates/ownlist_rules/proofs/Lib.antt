@@ -1,0 +1,4 @@
+pub mod Unfolding
+pub mod ListExamples
+pub mod Utf8Examples
+pub mod SpelledExamples

@@ -1,0 +1,5 @@
+pub mod Utf8
+pub mod OwnList
+pub mod Listed
+pub mod Spelled
+pub mod Ends
