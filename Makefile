@@ -3,6 +3,7 @@
 #   make              builds; this needs the Rattle kit (rt on the path)
 #   make install      puts what was built below PREFIX; it builds nothing and needs no kit
 #   make uninstall    takes it away again
+#   make pages        makes docs/EDITS.md and docs/FUNCTIONS.md anew, which list must-fail edits and public functions
 #
 # PREFIX is /usr/local where none is given, as in `make install PREFIX=/usr`. Library, header and manual pages can go elsewhere by LIBDIR, INCLUDEDIR and MANDIR; the
 # command finds its program beside it, below libexec, so the two stay together. DESTDIR, for packagers, stands before every path that is written to, and in no file.
@@ -23,7 +24,7 @@ LIB = $(DESTDIR)$(LIBDIR)
 INCLUDE = $(DESTDIR)$(INCLUDEDIR)
 MAN = $(DESTDIR)$(MANDIR)
 
-.PHONY: all install uninstall
+.PHONY: all install uninstall pages
 
 # The command builds each of its two programs where it is used first; VERSION, one line of visible bytes, serves as its list.
 all:
@@ -50,3 +51,7 @@ uninstall:
 	rm -f '$(LIB)/liborbendash.a' '$(INCLUDE)/orbendash.h' '$(LIB)/pkgconfig/orbendash.pc' '$(LIBEXEC)/orbendash' '$(LIBEXEC)/orbendash-judge' '$(LIBEXEC)/VERSION' '$(BIN)/orbendash' \
 	    '$(MAN)/man1/orbendash.1' '$(MAN)/man3/orbendash.3'
 	test ! -d '$(LIBEXEC)' || rmdir '$(LIBEXEC)'
+
+pages:
+	tools/edits-page > docs/EDITS.md
+	tools/functions-page > docs/FUNCTIONS.md
