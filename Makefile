@@ -16,7 +16,6 @@ DESTDIR =
 
 LIBRARY = target/staticlib/liborbendash.a
 PROGRAM = target/orbendash
-JUDGE = target/orbendash-judge
 
 BIN = $(DESTDIR)$(PREFIX)/bin
 LIBEXEC = $(DESTDIR)$(PREFIX)/libexec/orbendash
@@ -26,14 +25,13 @@ MAN = $(DESTDIR)$(MANDIR)
 
 .PHONY: all install uninstall pages
 
-# The command builds each of its two programs where it is used first; VERSION, one line of visible bytes, serves as its list.
+# The command builds its program where it is used first; VERSION, one line of visible bytes, serves as its list.
 all:
 	LC_ALL=C rt staticlib orbendash
 	bin/orbendash strip VERSION < /dev/null
-	bin/orbendash judge '' < /dev/null > /dev/null
 
 install:
-	@test -f '$(LIBRARY)' && test -x '$(PROGRAM)' && test -x '$(JUDGE)' || { echo 'nothing is built yet: run make first' >&2; exit 1; }
+	@test -f '$(LIBRARY)' && test -x '$(PROGRAM)' || { echo 'nothing is built yet: run make first' >&2; exit 1; }
 	install -d '$(BIN)' '$(LIBEXEC)' '$(LIB)/pkgconfig' '$(INCLUDE)' '$(MAN)/man1' '$(MAN)/man3'
 	install -m 644 '$(LIBRARY)' '$(LIB)/liborbendash.a'
 	install -m 644 hosts/c/orbendash.h '$(INCLUDE)/orbendash.h'
@@ -41,12 +39,12 @@ install:
 	    hosts/c/orbendash.pc.in > '$(LIB)/pkgconfig/orbendash.pc'
 	chmod 644 '$(LIB)/pkgconfig/orbendash.pc'
 	install -m 755 '$(PROGRAM)' '$(LIBEXEC)/orbendash'
-	install -m 755 '$(JUDGE)' '$(LIBEXEC)/orbendash-judge'
 	install -m 644 VERSION '$(LIBEXEC)/VERSION'
 	install -m 755 bin/orbendash '$(BIN)/orbendash'
 	install -m 644 docs/man/orbendash.1 '$(MAN)/man1/orbendash.1'
 	install -m 644 docs/man/orbendash.3 '$(MAN)/man3/orbendash.3'
 
+# An older version also installed a program orbendash-judge.
 uninstall:
 	rm -f '$(LIB)/liborbendash.a' '$(INCLUDE)/orbendash.h' '$(LIB)/pkgconfig/orbendash.pc' '$(LIBEXEC)/orbendash' '$(LIBEXEC)/orbendash-judge' '$(LIBEXEC)/VERSION' '$(BIN)/orbendash' \
 	    '$(MAN)/man1/orbendash.1' '$(MAN)/man3/orbendash.3'

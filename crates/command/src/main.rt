@@ -1,7 +1,7 @@
 // The command: `command strip LIST` writes the block on standard input without the Authentication-Results fields that speak in our own name
 // or in none; `command report LIST` writes what each Authentication-Results field of it says, and `command explain LIST` the same in words. LIST is a file with our own
-// identifiers, one to a line. `command write` writes the body of a field of our own from the report lines on standard input. Judging is a program of its own (`command_judge`), since
-// each is checked with all that it links.
+// identifiers, one to a line. `command judge VERDICTS` writes what the ARC chain of the block says by VERDICTS, one digit from 0 to 3 for each set from the first: 2 if its
+// seal verified, plus 1 if its signature did. `command write` writes the body of a field of our own from the report lines on standard input.
 //
 // Each is reading, one call and writing what it gave (`command_subcommands`). A body is written as it is, with no
 // name before it and no CRLF after it. A refusal writes nothing to standard output. One line on standard error says how
@@ -60,6 +60,23 @@ fn with_list(asked: Asked) {
     }
 }
 
+// Reads the block, and judges it by the verdicts that the second argument says.
+fn with_verdicts() {
+    let mut word = io::buffer();
+    let m = os::arg(2, &mut word);
+    let mut block = command_buffers::block();
+    let fields = command_files::read_whole(STDIN_FILENO, &mut block);
+    if !fields.whole {
+        command_ending::end(Ending::InputUnread, b"");
+        return;
+    }
+    let n = fields.length;
+    command_ending::end(
+        command_subcommands::judge_block(&block[..n], &mut word[..m]),
+        b"",
+    );
+}
+
 // Reads report lines, and writes their body where there are no more of them than were read.
 fn with_lines() {
     let mut lines = command_buffers::lines();
@@ -84,9 +101,7 @@ fn main() {
         Asked::Strip => with_list(Asked::Strip),
         Asked::Report => with_list(Asked::Report),
         Asked::Explain => with_list(Asked::Explain),
-        Asked::Judge => {
-            command_ending::end(Ending::Usage, b"");
-        }
+        Asked::Judge => with_verdicts(),
         Asked::Write => with_lines(),
         Asked::Nothing => {
             command_ending::end(Ending::Usage, b"");

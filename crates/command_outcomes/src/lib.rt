@@ -1,8 +1,8 @@
 // How a subcommand ends, by what its call answered: the output is written, or the refusal is told.
 //
 //   strip_outcome(a, out)       what `strip::strip` answered, and the buffer that it was lent
-//   report_outcome(a, out)      the same of `blockreport::reports`
-//   explain_outcome(a, lines)   the same, with the lines said in words
+//   report_outcome(a, out)      what `blockreport::reports` answered, and the buffer that it was lent
+//   explain_outcome(a, lines)   what `blockreport::reports` answered, and the buffer that it was lent; its lines are said in words
 //   judge_outcome(j)            what `arc::judge` answered, said in columns and in words
 //   write_outcome(a, out)       what `write::write` answered, and the buffer that it was lent
 //
@@ -18,6 +18,7 @@ ghost use lib.ListN.{length};
 ghost use Rattle.base_sequences.specs.Spans.{span};
 ghost use Rattle.command_outcomes.specs.Ends.{StripEnds, ReportEnds, ExplainEnds, verdictsRefusal, JudgeEnds, WriteEnds};
 
+// Writes the kept bytes, by what `strip::strip` answered and the buffer that it was lent, or tells the refusal.
 pub fn strip_outcome(a: Stripped, out: &[u8]) -> Ending
     ensures { λ r. ⌜ StripEnds (length (now (out .entry))) a r ⌝ }
 {
@@ -28,6 +29,7 @@ pub fn strip_outcome(a: Stripped, out: &[u8]) -> Ending
     command_ending::outcome(a.number, refusal, out, a.kept)
 }
 
+// Writes the report, by what `blockreport::reports` answered and the buffer that it was lent, or tells the refusal.
 pub fn report_outcome(a: BlockReported, out: &[u8]) -> Ending
     ensures { λ r. ⌜ ReportEnds (length (now (out .entry))) a r ⌝ }
 {
@@ -38,6 +40,7 @@ pub fn report_outcome(a: BlockReported, out: &[u8]) -> Ending
     command_ending::outcome(a.number, refusal, out, a.written)
 }
 
+// Says the lines of a report in words and writes that, by what `blockreport::reports` answered and the buffer that it was lent, or tells the refusal.
 pub fn explain_outcome(a: BlockReported, lines: &[u8]) -> Ending
     ensures { λ r. ⌜ ExplainEnds a (span (now (lines .entry)) 0 (a .written)) r ⌝ }
 {
@@ -60,6 +63,7 @@ fn refusal_of(number: u8, place: usize) -> Ending
     Ending::Refused { number, place }
 }
 
+// Says what `arc::judge` answered in columns and in words and writes that, or tells the refusal.
 pub fn judge_outcome(j: Judged) -> Ending
     ensures { λ r. ⌜ JudgeEnds j r ⌝ }
 {
@@ -68,6 +72,7 @@ pub fn judge_outcome(j: Judged) -> Ending
     command_ending::outcome(j.number, refusal_of(j.number, j.place), &out, n)
 }
 
+// Writes the body, by what `write::write` answered and the buffer that it was lent, or tells the refusal.
 pub fn write_outcome(a: Written, out: &[u8]) -> Ending
     ensures { λ r. ⌜ WriteEnds (length (now (out .entry))) a r ⌝ }
 {

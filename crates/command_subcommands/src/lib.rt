@@ -2,7 +2,7 @@
 //
 //   strip_block(block, list)     strips a block and writes what is kept
 //   report_block(block, list)    writes what each Authentication-Results field of a block says
-//   explain_block(block, list)   writes the same in words
+//   explain_block(block, list)   writes in words what each Authentication-Results field of a block says
 //   judge_block(block, digits)   writes what the ARC chain of a block says by the verdicts that these digits say
 //   write_body(lines)            writes the body that has these lines as its report
 use command_rules::Ending;
@@ -19,6 +19,7 @@ ghost use Rattle.arc_rules.specs.Answers as judged;
 ghost use Rattle.judgement_rules.specs.Judgement.{verdictOf};
 ghost use Rattle.command_outcomes.specs.Ends.{StripEnds, ReportEnds, ExplainEnds, JudgeEnds, WriteEnds};
 
+// Strips a block by our own list, and writes what is kept.
 pub fn strip_block(block: &[u8], list: &[u8]) -> Ending
     ensures { λ r. ⌜ StripEnds 65537 (stripped.answerOf (stripping.strip (now (block .entry)) (now (list .entry)) 65537)) r ⌝ }
 {
@@ -27,6 +28,7 @@ pub fn strip_block(block: &[u8], list: &[u8]) -> Ending
     command_outcomes::strip_outcome(a, &out)
 }
 
+// Writes what each Authentication-Results field of a block says, and by our own list whether it speaks in our name.
 pub fn report_block(block: &[u8], list: &[u8]) -> Ending
     ensures { λ r. ⌜ ReportEnds 229377 (reported.answerOf (reporting.reports (now (block .entry)) (now (list .entry)) 229377)) r ⌝ }
 {
@@ -35,6 +37,7 @@ pub fn report_block(block: &[u8], list: &[u8]) -> Ending
     command_outcomes::report_outcome(a, &out)
 }
 
+// Writes in words what each Authentication-Results field of a block says, and by our own list whether it speaks in our name.
 pub fn explain_block(block: &[u8], list: &[u8]) -> Ending
     ensures { λ r. ⌜ ExplainEnds (reported.answerOf (reporting.reports (now (block .entry)) (now (list .entry)) 229377)) (reporting.reports (now (block .entry)) (now (list .entry)) 229377 .written) r ⌝ }
 {
@@ -43,7 +46,7 @@ pub fn explain_block(block: &[u8], list: &[u8]) -> Ending
     command_outcomes::explain_outcome(a, &lines)
 }
 
-// The digits are turned into verdicts where they stand.
+// Writes what the ARC chain of a block says by the verdicts that these digits say. The digits are turned into verdicts where they stand.
 pub fn judge_block(block: &[u8], digits: &mut [u8]) -> Ending
     ensures { λ r. ⌜ JudgeEnds (judged.answerOf (chains.judge (now (block .entry)) (map verdictOf (now (digits .entry))))) r ⌝ }
     ensures { λ _. ⌜ now (digits .exit) ≡ map verdictOf (now (digits .entry)) ⌝ }
@@ -52,6 +55,7 @@ pub fn judge_block(block: &[u8], digits: &mut [u8]) -> Ending
     command_outcomes::judge_outcome(arc::judge(block, digits))
 }
 
+// Writes the body that has these lines as its report.
 pub fn write_body(lines: &[u8]) -> Ending
     ensures { λ r. ⌜ WriteEnds 65537 (composed.answerOf (composing.compose (now (lines .entry)) 65537)) r ⌝ }
 {
