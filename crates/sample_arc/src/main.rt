@@ -5,30 +5,30 @@
 // opened has `no file` on its line. At most 65,540 bytes of a block are read, which is enough on the far side of its limit.
 use arc_rules::Judged;
 use libc::STDOUT_FILENO;
+use sample_support::arguments;
+use sample_support::lines;
 
 // The most bytes of a block that are read.
 const MOST: usize = 65540;
 
-// Writes a number behind its name.
-fn put_number(label: &[u8], n: u64) {
-    io::write_all(STDOUT_FILENO, label);
-    io::print_decimal(STDOUT_FILENO, n);
-}
-
 // Writes the front half of the answer.
 fn put_outcome(r: Judged) {
-    put_number(b": number ", r.number as u64);
-    put_number(b" place ", r.place as u64);
-    put_number(b" outcome ", r.outcome as u64);
-    put_number(b" reason ", r.reason as u64);
-    put_number(b" field ", r.field as u64);
+    let mut line = io::buffer();
+    let a = lines::put_number(b": number ", r.number as u64, &mut line, 0);
+    let b = lines::put_number(b" place ", r.place as u64, &mut line, a);
+    let c = lines::put_number(b" outcome ", r.outcome as u64, &mut line, b);
+    let d = lines::put_number(b" reason ", r.reason as u64, &mut line, c);
+    let n = lines::put_number(b" field ", r.field as u64, &mut line, d);
+    io::write_all(STDOUT_FILENO, &line[..n]);
 }
 
 // Writes the other half.
 fn put_status(r: Judged) {
-    put_number(b" instances ", r.instances as u64);
-    put_number(b" status ", r.status as u64);
-    put_number(b" oldest ", r.oldest as u64);
+    let mut line = io::buffer();
+    let a = lines::put_number(b" instances ", r.instances as u64, &mut line, 0);
+    let b = lines::put_number(b" status ", r.status as u64, &mut line, a);
+    let n = lines::put_number(b" oldest ", r.oldest as u64, &mut line, b);
+    io::write_all(STDOUT_FILENO, &line[..n]);
 }
 
 // Judges and writes the answer.
@@ -38,37 +38,27 @@ fn put_judged(block: &[u8], verdicts: &[u8]) {
     put_status(r);
 }
 
-// The same on the file of the block and the text of the verdicts.
-fn run(file: i32, text: &[u8]) {
-    let mut block = [0u8; MOST];
-    let n = io::read_full(file, &mut block);
+// Judges by the text of the verdicts, and writes the answer.
+fn run(block: &[u8], text: &[u8]) {
     let mut verdicts = io::buffer();
     let m = sample_support::digits(text, &mut verdicts);
-    put_judged(&block[..n], &verdicts[..m]);
-}
-
-// Opens the file that an argument names, and writes the name.
-fn open(argument: usize) -> i32 {
-    let mut path = io::buffer();
-    let n = os::arg(argument, &mut path);
-    io::write_all(STDOUT_FILENO, &path[..n]);
-    io::write_all(STDOUT_FILENO, b" ");
-    os::open_read(&path[..n])
+    put_judged(block, &verdicts[..m]);
 }
 
 // One case: the number of each of its two arguments.
 fn one_case(block: usize, verdicts: usize) {
-    let file = open(block);
+    let mut bytes = [0u8; MOST];
+    let file = arguments::read_file(block, &mut bytes);
     let mut text = io::buffer();
-    let n = os::arg(verdicts, &mut text);
-    io::write_all(STDOUT_FILENO, &text[..n]);
-    if file < 0 {
+    let m = os::arg(verdicts, &mut text);
+    io::write_all(STDOUT_FILENO, &text[..m]);
+    if !file.found {
         io::write_all(STDOUT_FILENO, b": no file\n");
         return;
     }
-    run(file, &text[..n]);
+    let n = file.length;
+    run(&bytes[..n], &text[..m]);
     io::write_all(STDOUT_FILENO, b"\n");
-    libc::close(file);
 }
 
 // Runs one case after the other.

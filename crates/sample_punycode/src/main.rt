@@ -16,6 +16,8 @@
 use libc::STDOUT_FILENO;
 use punycode::Decoded;
 use punycode::Spelling;
+use sample_support::arguments;
+use sample_support::lines;
 
 // The most bytes of a label or text that are read.
 const MOST: usize = 16384;
@@ -23,31 +25,11 @@ const MOST: usize = 16384;
 // The most bytes that are lent.
 const MOST_LENT: usize = 4096;
 
-// The most bytes that are shown.
-const MOST_SHOWN: usize = 256;
-
-// Writes a number behind its name.
-fn put_number(label: &[u8], n: u64) {
-    io::write_all(STDOUT_FILENO, label);
-    io::print_decimal(STDOUT_FILENO, n);
-}
-
-// Shows the first bytes.
-fn put_text(s: &[u8]) {
-    let first = sample_support::front(s, MOST_SHOWN);
-    let mut text = [0u8; 3 * MOST_SHOWN];
-    let n = sample_support::shown(&s[..first], &mut text);
-    io::write_all(STDOUT_FILENO, b" text [");
-    io::write_all(STDOUT_FILENO, &text[..n]);
-    io::write_all(STDOUT_FILENO, b"]");
-}
-
 // Writes what holds of the lent bytes: the written ones in front, and those past them.
 fn put_bytes(out: &[u8], written: usize) {
-    let n = sample_support::front(out, written);
-    put_number(b", check ", sample_sums::adler(&out[..n]));
-    put_number(b" changed ", sample_sums::changed(&out[n..]) as u64);
-    put_text(&out[..n]);
+    let mut line = io::buffer();
+    let n = lines::put_bytes(out, written, &mut line, 0);
+    io::write_all(STDOUT_FILENO, &line[..n]);
 }
 
 // Decodes into the lent bytes, and writes the answer and what holds of them.
@@ -55,7 +37,9 @@ fn decode_into(label: &[u8], out: &mut [u8]) {
     let d = punycode::decode(label, out);
     match d {
         Decoded::Text { length } => {
-            put_number(b": text ", length as u64);
+            let mut line = io::buffer();
+            let n = lines::put_number(b": text ", length as u64, &mut line, 0);
+            io::write_all(STDOUT_FILENO, &line[..n]);
             put_bytes(out, length);
         }
         Decoded::Failed => {
@@ -87,13 +71,13 @@ fn number_if(b: bool) -> u64 {
 
 // Spells into the lent bytes, and writes the answers and what holds of them.
 fn spell_into(text: &[u8], out: &mut [u8]) {
-    put_number(
-        b": double hyphen ",
-        number_if(punycode_hyphens::has_double_hyphen(text)),
-    );
-    let n = punycode::spell(text, out);
-    put_number(b" length ", n as u64);
-    put_bytes(out, written(n));
+    let double = number_if(punycode_hyphens::has_double_hyphen(text));
+    let length = punycode::spell(text, out);
+    let mut line = io::buffer();
+    let a = lines::put_number(b": double hyphen ", double, &mut line, 0);
+    let n = lines::put_number(b" length ", length as u64, &mut line, a);
+    io::write_all(STDOUT_FILENO, &line[..n]);
+    put_bytes(out, written(length));
 }
 
 // Decodes or spells.
@@ -104,13 +88,11 @@ fn run_into(decoding: bool, s: &[u8], out: &mut [u8]) {
     spell_into(s, out);
 }
 
-// The same on the file, with so many lent bytes, each 170.
-fn run(decoding: bool, file: i32, room: usize) {
-    let mut s = [0u8; MOST];
-    let n = io::read_full(file, &mut s);
+// Decodes or spells into so many lent bytes, each 170, and writes the answer.
+fn run(decoding: bool, s: &[u8], room: usize) {
     let mut out = [170u8; MOST_LENT];
     let lent = sample_support::front(&out, room);
-    run_into(decoding, &s[..n], &mut out[..lent]);
+    run_into(decoding, s, &mut out[..lent]);
 }
 
 // Whether an argument names a label, not a text.
@@ -120,34 +102,18 @@ fn is_label(argument: usize) -> bool {
     base_readers::is_at(&path[..n], 0, 0, b'd')
 }
 
-// Opens the file that an argument names, and writes the name.
-fn open(argument: usize) -> i32 {
-    let mut path = io::buffer();
-    let n = os::arg(argument, &mut path);
-    io::write_all(STDOUT_FILENO, &path[..n]);
-    io::write_all(STDOUT_FILENO, b" ");
-    os::open_read(&path[..n])
-}
-
-// The number of bytes that an argument tells, which is also written.
-fn room_of(argument: usize) -> usize {
-    let mut text = io::buffer();
-    let n = os::arg(argument, &mut text);
-    io::write_all(STDOUT_FILENO, &text[..n]);
-    sample_support::number_of(&text[..n], MOST_LENT)
-}
-
 // One case: the number of each of its two arguments.
 fn one_case(named: usize, lent: usize) {
-    let file = open(named);
-    let room = room_of(lent);
-    if file < 0 {
+    let mut bytes = [0u8; MOST];
+    let file = arguments::read_file(named, &mut bytes);
+    let room = arguments::room_of(lent, MOST_LENT);
+    if !file.found {
         io::write_all(STDOUT_FILENO, b": no file\n");
         return;
     }
-    run(is_label(named), file, room);
+    let n = file.length;
+    run(is_label(named), &bytes[..n], room);
     io::write_all(STDOUT_FILENO, b"\n");
-    libc::close(file);
 }
 
 // Runs one case after the other.

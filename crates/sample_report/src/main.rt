@@ -15,6 +15,8 @@
 // answer worked out by hand.
 use libc::STDOUT_FILENO;
 use report_rules::Reported;
+use sample_support::arguments;
+use sample_support::lines;
 
 // The most bytes of a body that are read.
 const MOST: usize = 65540;
@@ -22,85 +24,42 @@ const MOST: usize = 65540;
 // The most bytes that are lent.
 const MOST_LENT: usize = 200000;
 
-// The most bytes of a report that are shown.
-const MOST_SHOWN: usize = 256;
-
-// Writes a number behind its name.
-fn put_number(label: &[u8], n: u64) {
-    io::write_all(STDOUT_FILENO, label);
-    io::print_decimal(STDOUT_FILENO, n);
-}
-
-// Shows the first bytes.
-fn put_text(s: &[u8]) {
-    let first = sample_support::front(s, MOST_SHOWN);
-    let mut text = [0u8; 3 * MOST_SHOWN];
-    let n = sample_support::shown(&s[..first], &mut text);
-    io::write_all(STDOUT_FILENO, b" text [");
-    io::write_all(STDOUT_FILENO, &text[..n]);
-    io::write_all(STDOUT_FILENO, b"]");
-}
-
-// Writes what holds of the lent bytes: the written ones in front, and those past them.
-fn put_bytes(out: &[u8], written: usize) {
-    let n = sample_support::front(out, written);
-    put_number(b", check ", sample_sums::adler(&out[..n]));
-    put_number(b" changed ", sample_sums::changed(&out[n..]) as u64);
-    put_text(&out[..n]);
-}
-
-// Writes the answer.
-fn put_answer(r: Reported) {
-    put_number(b": number ", r.number as u64);
-    put_number(b" place ", r.place as u64);
-    put_number(b" written ", r.written as u64);
-    put_number(b" ignored ", r.ignored as u64);
+// Writes the answer, and what holds of the lent bytes: the written ones in front, and those past them.
+fn put_answer(r: Reported, out: &[u8]) {
+    let mut line = io::buffer();
+    let a = lines::put_number(b": number ", r.number as u64, &mut line, 0);
+    let b = lines::put_number(b" place ", r.place as u64, &mut line, a);
+    let c = lines::put_number(b" written ", r.written as u64, &mut line, b);
+    let d = lines::put_number(b" ignored ", r.ignored as u64, &mut line, c);
+    let n = lines::put_bytes(out, r.written, &mut line, d);
+    io::write_all(STDOUT_FILENO, &line[..n]);
 }
 
 // Reports into the lent bytes, and writes the answer and what holds of them.
 fn report_into(body: &[u8], out: &mut [u8]) {
     let r = report::report(body, out);
-    put_answer(r);
-    put_bytes(out, r.written);
+    put_answer(r, out);
 }
 
-// The same on the file of the body, with so many lent bytes, each 170.
-fn run(file: i32, room: usize) {
-    let mut body = [0u8; MOST];
-    let n = io::read_full(file, &mut body);
+// Reports a body into so many lent bytes, each 170, and writes the answer.
+fn run(body: &[u8], room: usize) {
     let mut out = sample_support::buffers::untouched();
     let lent = sample_support::front(&out, room);
-    report_into(&body[..n], &mut out[..lent]);
-}
-
-// Opens the file that an argument names, and writes the name.
-fn open(argument: usize) -> i32 {
-    let mut path = io::buffer();
-    let n = os::arg(argument, &mut path);
-    io::write_all(STDOUT_FILENO, &path[..n]);
-    io::write_all(STDOUT_FILENO, b" ");
-    os::open_read(&path[..n])
-}
-
-// The number of bytes that an argument tells, which is also written.
-fn room_of(argument: usize) -> usize {
-    let mut text = io::buffer();
-    let n = os::arg(argument, &mut text);
-    io::write_all(STDOUT_FILENO, &text[..n]);
-    sample_support::number_of(&text[..n], MOST_LENT)
+    report_into(body, &mut out[..lent]);
 }
 
 // One case: the number of each of its two arguments.
 fn one_case(body: usize, lent: usize) {
-    let file = open(body);
-    let room = room_of(lent);
-    if file < 0 {
+    let mut bytes = [0u8; MOST];
+    let file = arguments::read_file(body, &mut bytes);
+    let room = arguments::room_of(lent, MOST_LENT);
+    if !file.found {
         io::write_all(STDOUT_FILENO, b": no file\n");
         return;
     }
-    run(file, room);
+    let n = file.length;
+    run(&bytes[..n], room);
     io::write_all(STDOUT_FILENO, b"\n");
-    libc::close(file);
 }
 
 // Runs one case after the other.

@@ -36,7 +36,7 @@ sets-past l i j vs e = go (leb i (length l)) refl
 filled-long : {old text new : List ℕ} {at next : ℕ} → Filled old at text new next → length new ≡ length old
 filled-long {old} {text} {new} {at} w = ap length (w .bytes) ∙ length-sets old at text
 
-filled-then : {a b c x y : List ℕ} {i j k : ℕ} → Filled a i x b j → Filled b j y c k → Filled a i (x ++ y) c k
+pub filled-then : {a b c x y : List ℕ} {i j k : ℕ} → Filled a i x b j → Filled b j y c k → Filled a i (x ++ y) c k
 filled-then {a} {b} {c} {x} {y} {i} {j} {k} v w =
     let l : length b ≡ length a = filled-long v in
     record {
@@ -112,15 +112,15 @@ unfolding plain
 visible-plain b r ne e = e ∙ rw (ne-eqb b 37 ne)
 
 -- a byte in front: itself, or the percent sign and two digits
-shown-itself : (x : ℕ) (xs : List ℕ) → plain x ≡ true → shown (x ∷ xs) ≡ x ∷ shown xs
+pub shown-itself : (x : ℕ) (xs : List ℕ) → plain x ≡ true → shown (x ∷ xs) ≡ x ∷ shown xs
 unfolding shown
 shown-itself x xs e = rw (shown, e)
 
-shown-coded : (x : ℕ) (xs : List ℕ) → plain x ≡ false → shown (x ∷ xs) ≡ 37 ∷ hexDigit (x / 16) ∷ hexDigit (x % 16) ∷ shown xs
+pub shown-coded : (x : ℕ) (xs : List ℕ) → plain x ≡ false → shown (x ∷ xs) ≡ 37 ∷ hexDigit (x / 16) ∷ hexDigit (x % 16) ∷ shown xs
 unfolding shown
 shown-coded x xs e = rw (shown, e)
 
-shown-none : shown [] ≡ []
+pub shown-none : shown [] ≡ []
 unfolding shown
 shown-none = refl
 

@@ -1,3 +1,4 @@
 pub mod Numbers
 pub mod Fills
+pub mod Parts
 pub mod Examples

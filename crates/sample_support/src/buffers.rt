@@ -13,6 +13,14 @@ pub fn zeros() -> [u8; 210000]
     [0u8; 210000]
 }
 
+// Room for 256 bytes that are shown: 768 zeros.
+pub fn text() -> [u8; 768]
+    ensures { λ r. ⌜ r ≡ replicate 768 0 ⌝ }
+    ensures { λ r. ⌜ 768 ≡ length r ⌝ }
+{
+    [0u8; 768]
+}
+
 // Bytes to lend: 200,000 of 170.
 pub fn untouched() -> [u8; 200000]
     ensures { λ r. ⌜ r ≡ replicate 200000 170 ⌝ }

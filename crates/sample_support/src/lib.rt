@@ -1,4 +1,5 @@
-// What the programs that run cases share: they tell of bytes as text, and their arguments are decimal numbers.
+// What the programs that run cases share: they tell of bytes as text, and their arguments are decimal numbers. `arguments` has what they do with an argument,
+// `lines` the parts of the line that they write of a case, and `buffers` their buffers.
 //
 // `shown` writes bytes as visible text, `digits` the values of the digits in front of a text, each into a
 // lent buffer: as much is stored as there is room for, and the answer says how many bytes that is. `number_of` reads a number, cut at the most
@@ -10,7 +11,9 @@ ghost use lib.ListN.{length};
 ghost use Rattle.base_readers.specs.Texts.{within};
 ghost use Rattle.sample_support.specs.Samples.{number, hexDigit, plain, shown, digits, Front, Filled};
 
+pub mod arguments;
 pub mod buffers;
+pub mod lines;
 
 // How many of n bytes there are in front: n, or all where there are fewer.
 pub fn front(s: &[u8], n: usize) -> usize

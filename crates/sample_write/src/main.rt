@@ -15,118 +15,81 @@
 // The lines that are expected (the file stdout) were not made by this program: they are the answers of a model of the ticket's rules in
 // another language.
 use libc::STDOUT_FILENO;
+use report_rules::Reported;
+use sample_support::arguments;
+use sample_support::lines;
 use write_rules::Written;
 
 // The most bytes that are lent.
 const MOST_LENT: usize = 66000;
 
-// The most bytes of a body that are shown.
-const MOST_SHOWN: usize = 256;
-
-// Writes a number behind its name.
-fn put_number(label: &[u8], n: u64) {
-    io::write_all(STDOUT_FILENO, label);
-    io::print_decimal(STDOUT_FILENO, n);
+// Writes the answer, and what holds of the lent bytes: the written ones in front, and those past them.
+fn put_answer(w: Written, out: &[u8]) {
+    let mut line = io::buffer();
+    let a = lines::put_number(b": number ", w.number as u64, &mut line, 0);
+    let b = lines::put_number(b" place ", w.place as u64, &mut line, a);
+    let c = lines::put_number(b" written ", w.written as u64, &mut line, b);
+    let n = lines::put_bytes(out, w.written, &mut line, c);
+    io::write_all(STDOUT_FILENO, &line[..n]);
 }
 
-// Shows the first bytes.
-fn put_text(s: &[u8]) {
-    let first = sample_support::front(s, MOST_SHOWN);
-    let mut text = [0u8; 3 * MOST_SHOWN];
-    let n = sample_support::shown(&s[..first], &mut text);
-    io::write_all(STDOUT_FILENO, b" text [");
-    io::write_all(STDOUT_FILENO, &text[..n]);
-    io::write_all(STDOUT_FILENO, b"]");
+// Writes what is said of the body that was written.
+fn put_report(r: Reported) {
+    let mut line = io::buffer();
+    let a = lines::put_number(b" read back number ", r.number as u64, &mut line, 0);
+    let b = lines::put_number(b" place ", r.place as u64, &mut line, a);
+    let n = lines::put_number(b" ignored ", r.ignored as u64, &mut line, b);
+    io::write_all(STDOUT_FILENO, &line[..n]);
 }
 
-// Writes what holds of the lent bytes: the written ones in front, and those past them.
-fn put_bytes(out: &[u8], written: usize) {
-    let n = sample_support::front(out, written);
-    put_number(b", check ", sample_sums::adler(&out[..n]));
-    put_number(b" changed ", sample_sums::changed(&out[n..]) as u64);
-    put_text(&out[..n]);
-}
-
-// Writes the number and the place of an answer, and what else it has.
-fn put_answer(label: &[u8], number: u8, place: usize, other: &[u8], n: usize) {
-    put_number(label, number as u64);
-    put_number(b" place ", place as u64);
-    put_number(other, n as u64);
-}
-
-// Writes whether a report of so many bytes is the lines.
-fn put_same(lines: &[u8], reported: &[u8], count: usize) {
+// Writes whether a report of so many bytes is the given lines.
+fn put_same(given: &[u8], reported: &[u8], count: usize) {
     let n = sample_support::front(reported, count);
-    if text_compare::exact::is_same(lines, &reported[..n]) {
+    if text_compare::exact::is_same(given, &reported[..n]) {
         io::write_all(STDOUT_FILENO, b" same");
         return;
     }
     io::write_all(STDOUT_FILENO, b" differs");
 }
 
-// Reports the body that was written, where the number is 0, and compares.
-fn read_back(lines: &[u8], out: &[u8], w: Written) {
+// Reports the body that was written, where the number is 0, and compares that with the given lines.
+fn read_back(given: &[u8], out: &[u8], w: Written) {
     if w.number != 0 {
         return;
     }
     let n = sample_support::front(out, w.written);
     let mut reported = sample_support::buffers::zeros();
     let r = report::report(&out[..n], &mut reported);
-    put_answer(
-        b" read back number ",
-        r.number,
-        r.place,
-        b" ignored ",
-        r.ignored,
-    );
-    put_same(lines, &reported, r.written);
+    put_report(r);
+    put_same(given, &reported, r.written);
 }
 
-// Writes into the lent bytes, and says the answer and what holds of them.
-fn write_into(lines: &[u8], out: &mut [u8]) {
-    let w = write::write(lines, out);
-    put_answer(b": number ", w.number, w.place, b" written ", w.written);
-    put_bytes(out, w.written);
-    read_back(lines, out, w);
+// Writes the body of the given lines into the lent bytes, and says the answer and what holds of them.
+fn write_into(given: &[u8], out: &mut [u8]) {
+    let w = write::write(given, out);
+    put_answer(w, out);
+    read_back(given, out, w);
 }
 
-// The same on the file of the lines, with so many lent bytes, each 170.
-fn run(file: i32, room: usize) {
-    let mut lines = sample_support::buffers::zeros();
-    let n = io::read_full(file, &mut lines);
+// Writes the body of the given lines into so many lent bytes, each 170, and says the answer.
+fn run(given: &[u8], room: usize) {
     let mut out = sample_support::buffers::untouched();
     let lent = sample_support::front(&out, room);
-    write_into(&lines[..n], &mut out[..lent]);
-}
-
-// Opens the file that an argument names, and writes the name.
-fn open(argument: usize) -> i32 {
-    let mut path = io::buffer();
-    let n = os::arg(argument, &mut path);
-    io::write_all(STDOUT_FILENO, &path[..n]);
-    io::write_all(STDOUT_FILENO, b" ");
-    os::open_read(&path[..n])
-}
-
-// The number of bytes that an argument tells, which is also written.
-fn room_of(argument: usize) -> usize {
-    let mut text = io::buffer();
-    let n = os::arg(argument, &mut text);
-    io::write_all(STDOUT_FILENO, &text[..n]);
-    sample_support::number_of(&text[..n], MOST_LENT)
+    write_into(given, &mut out[..lent]);
 }
 
 // One case: the number of each of its two arguments.
-fn one_case(lines: usize, lent: usize) {
-    let file = open(lines);
-    let room = room_of(lent);
-    if file < 0 {
+fn one_case(given: usize, lent: usize) {
+    let mut bytes = sample_support::buffers::zeros();
+    let file = arguments::read_file(given, &mut bytes);
+    let room = arguments::room_of(lent, MOST_LENT);
+    if !file.found {
         io::write_all(STDOUT_FILENO, b": no file\n");
         return;
     }
-    run(file, room);
+    let n = file.length;
+    run(&bytes[..n], room);
     io::write_all(STDOUT_FILENO, b"\n");
-    libc::close(file);
 }
 
 // Runs one case after the other.
