@@ -21,13 +21,14 @@ use Rattle.punycode_rules.specs.Labels.{doubleHyphen}
 use Rattle.ownlist_rules.specs.declared.Own.{Own}
 use Rattle.ownlist_rules.specs.OwnList.{ownList}
 use Rattle.ownlist_rules.specs.Listed.{ownOf}
+use Rattle.ownlist_rules.specs.Calls.{orRefusal, byList, byFields, orShort}
 use Rattle.base_readers.specs.Lines.{linesOf}
 use Rattle.ownlist_rules.specs.Spelled.{spelledList, ownOfSpelled}
 use Rattle.ownlist_spelled.proofs.Fits.{fits-room}
 use Rattle.ownlist_laws.proofs.AsCompared.{list-own, list-plain}
 use Rattle.ownlist_laws.proofs.OwnLists.{list-length}
 use Rattle.blockreport_rules.specs.declared.BlockReported.{BlockReported}
-use Rattle.blockreport_rules.specs.Reports.{Answer, refuse, fitted, orRefusal, reportFields, reports}
+use Rattle.blockreport_rules.specs.Reports.{Answer, refuse, fitted, reportFields, reports}
 use Rattle.blockreport_rules.specs.Answers.{answerOf, leaves}
 use Rattle.blockreport_laws.proofs.Whose.{same-reported}
 use Rattle.text_first_pass.specs.declared.Copy.{Copy}
@@ -73,7 +74,7 @@ module _ (s : List ℕ) (whose : Got (List ℕ) → Own) (old : List ℕ) (r m :
       go zero z = absurd (ne z)
       go (suc n) z =
           let f : fields s .number ≡ suc n = sym (k .number) ∙ z in
-          refused (reportFields s whose (length old)) old r (m .number) (m .place) e (rw (reportFields, orRefusal, f, z, k .place))
+          refused (reportFields s whose (length old)) old r (m .number) (m .place) e (rw (reportFields, byFields, orRefusal, f, z, k .place))
 
   module _ (z : m .number ≡ 0) where
     sound : fields s .number ≡ 0
@@ -85,7 +86,7 @@ module _ (s : List ℕ) (whose : Got (List ℕ) → Own) (old : List ℕ) (r m :
     told l r out d =
         let fits : length (textBefore s whose) ≤ length old = rw (k .written) at l in
         let t : ltb (length old) (length (textBefore s whose)) ≡ false = le-ltb _ _ fits in
-        let is : reportFields s whose (length old) ≡ record { number = 0; place = 0; written = textBefore s whose } = rw (reportFields, orRefusal, sound, fitted, t) in
+        let is : reportFields s whose (length old) ≡ record { number = 0; place = 0; written = textBefore s whose } = rw (reportFields, byFields, orRefusal, sound, fitted, orShort, t) in
         (rw is (same r _ _ _ (d .number ∙ sound) (d .place ∙ fields-place s sound) (d .written)), rw is (d .bytes fits ∙ sets-front old (textBefore s whose) fits))
       where
         same : (r : BlockReported) (n p w : ℕ) → r .number ≡ n → r .place ≡ p → r .written ≡ w → r ≡ record { number = n; place = p; written = w }
@@ -98,7 +99,7 @@ module _ (s : List ℕ) (whose : Got (List ℕ) → Own) (old : List ℕ) (r m :
       answer-6 q e =
           let w = when-short new (m .written) old lent c i v q in
           let t : ltb (length old) (length (textBefore s whose)) ≡ true = lt-ltb _ _ (rw (k .written) at (w .more)) in
-          rw (w .same) (refused (reportFields s whose (length old)) old r 6 (m .written) e (rw (reportFields, orRefusal, sound, fitted, t, k .written)))
+          rw (w .same) (refused (reportFields s whose (length old)) old r 6 (m .written) e (rw (reportFields, byFields, orRefusal, sound, fitted, orShort, t, k .written)))
 
       -- it was copied from the first pass's buffer
       pub answer-copied : c ≡ Done → Answered (reportFields s whose (length old)) old lent m
@@ -129,7 +130,7 @@ within-limit s big b h = ltb-false byteLimit (length s) (sym b ∙ h)
 module _ (s list old : List ℕ) (r : BlockReported) (big : Bool) (b : big ≡ ltb byteLimit (length s)) where
   pub answer-1 : big ≡ true → r ≡ record { number = 1; place = 0; written = 0 } → Answered (reports s list (length old)) old old r
   unfolding reports
-  answer-1 h e = refused (reports s list (length old)) old r 1 0 e (let t : ltb byteLimit (length s) ≡ true = sym b ∙ h in rw (reports, t))
+  answer-1 h e = refused (reports s list (length old)) old r 1 0 e (let t : ltb byteLimit (length s) ≡ true = sym b ∙ h in rw (reports, byList, t))
 
   module _ (h : big ≡ false) where
     small : ltb byteLimit (length s) ≡ false
@@ -140,7 +141,7 @@ module _ (s list old : List ℕ) (r : BlockReported) (big : Bool) (b : big ≡ l
     answer-5 p q e =
         let five : ownList list .number ≡ 5 = sym (check-number list) ∙ ap numberOf (sym q) in
         let at : ownList list .place ≡ p = sym (check-place list five) ∙ ap placeOf (sym q) in
-        refused (reports s list (length old)) old r 5 p e (rw (reports, small, orRefusal, five, at))
+        refused (reports s list (length old)) old r 5 p e (rw (reports, byList, small, orRefusal, five, at))
 
     module _ (g : Good ≡ checkedOf (ownList list)) (new : List ℕ) where
       good : ownList list .number ≡ 0
@@ -148,7 +149,7 @@ module _ (s list old : List ℕ) (r : BlockReported) (big : Bool) (b : big ≡ l
 
       behind : reportFields s (ownOf (ownList list .items)) (length old) ≡ reports s list (length old)
       unfolding reports
-      behind = rw (reports, small, orRefusal, good)
+      behind = rw (reports, byList, small, orRefusal, good)
 
       pub answer-listed : Answered (reportFields s (ownOf (ownList list .items)) (length old)) old new r → Answered (reports s list (length old)) old new r
       answer-listed a = meant _ _ old new r behind a

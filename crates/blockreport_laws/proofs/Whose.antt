@@ -1,5 +1,5 @@
 -- Where the same is said of whose each identifier is, the report of a block is the same.
-use Prim.Native.Nat.{ℕ, zero, suc}
+use Prim.Native.Nat.{ℕ, suc}
 use mathlib.Core.Path.{_≡_, refl, ap}
 use mathlib.Core.Bool.{Bool, true, false}
 use mathlib.Core.List.{List, [], _∷_}
@@ -9,7 +9,8 @@ use Rattle.lexis_rules.specs.Bytes.{alike}
 use Rattle.block_rules.specs.Fields.{Field, nameOf, bodyOf, fields}
 use Rattle.ownlist_rules.specs.declared.Own.{Own}
 use Rattle.identifier_rules.specs.Identifier.{identifier}
-use Rattle.blockreport_rules.specs.Reports.{bodyLines, addition, additions, reportFields}
+use Rattle.ownlist_laws.proofs.CallCases.{or-refusal-same}
+use Rattle.blockreport_rules.specs.Reports.{bodyLines, addition, additions, refuse, fitted, reportFields}
 
 module _ (whose whose′ : Got (List ℕ) → Own) (same : (g : Got (List ℕ)) → whose g ≡ whose′ g) where
   same-addition : (n : ℕ) (name body : List ℕ) → addition whose n name body ≡ addition whose′ n name body
@@ -27,8 +28,6 @@ module _ (whose whose′ : Got (List ℕ) → Own) (same : (g : Got (List ℕ)) 
 
   pub same-reported : (block : List ℕ) (room : ℕ) → reportFields block whose room ≡ reportFields block whose′ room
   unfolding reportFields
-  same-reported block room = go (fields block .number) refl
-    where
-      go : (n : ℕ) → fields block .number ≡ n → reportFields block whose room ≡ reportFields block whose′ room
-      go zero e = rw (reportFields, e, same-additions 1 (fields block .items))
-      go (suc n) e = rw (reportFields, e)
+  same-reported block room =
+      or-refusal-same refuse (fields block) (λ fs. fitted (additions whose 1 fs) room) (λ fs. fitted (additions whose′ 1 fs) room)
+      (λ fs. ap (λ (text : List ℕ). fitted text room) (same-additions 1 fs))

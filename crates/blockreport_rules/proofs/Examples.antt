@@ -6,6 +6,7 @@ use mathlib.Core.List.{List, [], _∷_, _++_, map}
 use lib.ListN.{length}
 use Rattle.base_readers.specs.Texts.{bytes}
 use Rattle.base_readers.proofs.Cases.{case, Says}
+use Rattle.ownlist_rules.specs.Calls.{byList}
 use Rattle.blockreport_rules.specs.Reports.{Answer, reports}
 use Rattle.blockreport_rules.specs.Answers.{answerOf, leaves}
 use Rattle.blockreport_rules.proofs.Unfolding.{opened}
@@ -137,20 +138,20 @@ no-room = refl
 -- 1 before 5 and before 2: every block of 65,537 bytes that starts with an LF, with a bad list and with a good one
 long : (rest : List ℕ) → length rest ≡ 65536 → reports (10 ∷ rest) (bytes "\n") 0 ≡ refuses 1 0
 unfolding opened
-long rest e = rw (reports, e)
+long rest e = rw (reports, byList, e)
 
 long-good-list : (rest : List ℕ) → length rest ≡ 65536 → reports (10 ∷ rest) [] 0 ≡ refuses 1 0
 unfolding opened
-long-good-list rest e = rw (reports, e)
+long-good-list rest e = rw (reports, byList, e)
 
 -- one of 65,536 is walked, after the list
 limit : (rest : List ℕ) → length rest ≡ 65535 → reports (10 ∷ rest) (bytes "\n") 0 ≡ refuses 5 0
 unfolding opened
-limit rest e = rw (reports, e)
+limit rest e = rw (reports, byList, e)
 
 limit-good-list : (rest : List ℕ) → length rest ≡ 65535 → reports (10 ∷ rest) [] 0 ≡ refuses 2 0
 unfolding opened
-limit-good-list rest e = rw (reports, e)
+limit-good-list rest e = rw (reports, byList, e)
 
 -- ==== what the caller sees
 

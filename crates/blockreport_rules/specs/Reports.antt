@@ -1,19 +1,16 @@
 -- The report of a header block: what each field adds, and the answers in order.
-use Prim.Native.Nat.{ℕ, zero, suc}
+use Prim.Native.Nat.{ℕ, suc}
 use mathlib.Core.Bool.{true, false}
 use mathlib.Core.List.{List, [], _∷_, _++_}
-use lib.Dec.{ltb}
 use lib.ListN.{length}
 use Rattle.base_readers.specs.Texts.{bytes}
 use Rattle.base_readers.specs.Parsers.{Got}
-use Rattle.base_readers.specs.Walks.{Walked}
 use Rattle.lexis_rules.specs.Bytes.{alike}
-use Rattle.lexis_rules.specs.Limits.{byteLimit}
-use Rattle.block_rules.specs.Fields.{Field, nameOf, bodyOf, fields}
+use Rattle.block_rules.specs.Fields.{Field, nameOf, bodyOf}
 use Rattle.ownlist_rules.specs.declared.Own.{Own}
-use Rattle.ownlist_rules.specs.OwnList.{ownList}
 use Rattle.identifier_rules.specs.Identifier.{identifier}
 use Rattle.ownlist_rules.specs.Listed.{ownOf}
+use Rattle.ownlist_rules.specs.Calls.{byList, byFields, orShort}
 use Rattle.report_rules.specs.Body.{reading}
 use Rattle.report_rules.specs.ByCase.{numberOf, textOf, countOf}
 use Rattle.blockreport_rules.specs.FieldLines.{fieldLine}
@@ -48,17 +45,12 @@ refuse n p = record { number = n; place = p; written = [] }
 
 -- 6: lent output shorter than the whole output; its place is the bytes needed
 unfoldable pub fitted : List ℕ → ℕ → Answer
-fitted text room = elim (ltb room (length text)) [ true ↦ refuse 6 (length text) | false ↦ record { number = 0; place = 0; written = text } ]
-
--- a walk's refusal, or what its items give
-abbrev pub orRefusal : {A : Type 0} → Walked A → (List A → Answer) → Answer
-orRefusal w f = elim (w .number) [ zero ↦ f (w .items) | suc n ↦ refuse (suc n) (w .place) ]
+fitted text room = orShort refuse room (length text) (record { number = 0; place = 0; written = text })
 
 -- 2 to 4, then 6. The fields are numbered from 1
 unfoldable pub reportFields : List ℕ → (Got (List ℕ) → Own) → ℕ → Answer
-reportFields block whose room = orRefusal (fields block) (λ fs. fitted (additions whose 1 fs) room)
+reportFields block whose room = byFields refuse block (λ fs. fitted (additions whose 1 fs) room)
 
 -- 1, then 5, then 2 to 4, then 6, as for stripping. An identifier is our own when it equals a list entry
 unfoldable pub reports : List ℕ → List ℕ → ℕ → Answer
-reports block list room =
-    elim (ltb byteLimit (length block)) [ true ↦ refuse 1 0 | false ↦ orRefusal (ownList list) (λ own. reportFields block (ownOf own) room) ]
+reports block list room = byList refuse block list (λ own. reportFields block (ownOf own) room)

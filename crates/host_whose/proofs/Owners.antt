@@ -12,6 +12,7 @@ use Rattle.ownlist_rules.specs.declared.Own.{Own}
 use Rattle.ownlist_rules.specs.OwnList.{ownList}
 use Rattle.identifier_rules.specs.Identifier.{identifier}
 use Rattle.ownlist_rules.specs.Listed.{ownOf}
+use Rattle.ownlist_rules.specs.Calls.{orRefusal, byList}
 use Rattle.base_readers.specs.Lines.{linesOf}
 use Rattle.ownlist_rules.specs.Spelled.{ownOfSpelled}
 use Rattle.ownlist_laws.proofs.AsCompared.{list-own, list-plain}
@@ -35,7 +36,7 @@ good-zero list g = sym (check-number list) ∙ ap numberOf (sym g)
 module _ (list body : List ℕ) (r : WhoseFace) (big : Bool) (b : big ≡ ltb byteLimit (length body)) where
   pub answer-1 : big ≡ true → r ≡ refuseWhose 1 0 → r ≡ whose list body
   unfolding whose
-  answer-1 h e = let t : ltb byteLimit (length body) ≡ true = sym b ∙ h in rw (whose, t) e
+  answer-1 h e = let t : ltb byteLimit (length body) ≡ true = sym b ∙ h in rw (whose, byList, t) e
 
   module _ (h : big ≡ false) where
     small : ltb byteLimit (length body) ≡ false
@@ -46,8 +47,8 @@ module _ (list body : List ℕ) (r : WhoseFace) (big : Bool) (b : big ≡ ltb by
     answer-5 p q e =
         let five : ownList list .number ≡ 5 = sym (check-number list) ∙ ap numberOf (sym q) in
         let at : ownList list .place ≡ p = sym (check-place list five) ∙ ap placeOf (sym q) in
-        rw (whose, small, five, at) e
+        rw (whose, byList, small, orRefusal, five, at) e
 
     pub answer-0 : Good ≡ checkedOf (ownList list) → (o : Own) → o ≡ ownOf (ownList list .items) (identifier body) → r ≡ tellWhose o → r ≡ whose list body
     unfolding whose
-    answer-0 g o w e = rw (whose, small, good-zero list g, ← w) e
+    answer-0 g o w e = rw (whose, byList, small, orRefusal, good-zero list g, ← w) e

@@ -1,15 +1,11 @@
 -- Whose the identifier of a body is, with the answers in stripping's order.
-use Prim.Native.Nat.{ℕ, zero, suc}
-use mathlib.Core.Bool.{true, false}
+use Prim.Native.Nat.{ℕ}
 use mathlib.Core.List.{List}
-use lib.Dec.{ltb}
-use lib.ListN.{length}
-use Rattle.lexis_rules.specs.Limits.{byteLimit}
 use Rattle.ownlist_rules.specs.declared.Own.{Own}
 use Rattle.ownlist_rules.specs.declared.Own.the-variants.{Ours, Others, Unreadable}
-use Rattle.ownlist_rules.specs.OwnList.{ownList}
 use Rattle.identifier_rules.specs.Identifier.{identifier}
 use Rattle.ownlist_rules.specs.Listed.{ownOf}
+use Rattle.ownlist_rules.specs.Calls.{byList}
 use Rattle.host_whose_struct.specs.declared.WhoseFace.{WhoseFace}
 
 -- 0 ours, 1 another's, 2 unreadable
@@ -27,11 +23,4 @@ tellWhose o = record { number = 0; whose = ownerCode o; place = 0 }
 
 -- 01, Answer numbers, in stripping's order: 1 for the body, then 5 for the list; else whose the identifier is
 unfoldable pub whose : List ℕ → List ℕ → WhoseFace
-whose list body =
-    elim (ltb byteLimit (length body)) [
-      | true ↦ refuseWhose 1 0
-      | false ↦ (elim (ownList list .number) [
-        | zero ↦ tellWhose (ownOf (ownList list .items) (identifier body))
-        | suc n ↦ refuseWhose (suc n) (ownList list .place)
-      ])
-    ]
+whose list body = byList refuseWhose body list (λ own. tellWhose (ownOf own (identifier body)))

@@ -3,3 +3,4 @@ pub mod OwnList
 pub mod Listed
 pub mod Spelled
 pub mod Ends
+pub mod Calls

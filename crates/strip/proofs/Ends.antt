@@ -21,8 +21,9 @@ use Rattle.base_readers.specs.Lines.{linesOf}
 use Rattle.ownlist_rules.specs.Spelled.{spelledList, amongSpelled}
 use Rattle.ownlist_laws.proofs.OwnLists.{list-among}
 use Rattle.ownlist_laws.proofs.AsCompared.{list-plain}
+use Rattle.ownlist_rules.specs.Calls.{orRefusal, byList}
 use Rattle.strip_rules.specs.declared.Stripped.{Stripped}
-use Rattle.strip_rules.specs.Strip.{Answer, orRefusal, stripFields, strip}
+use Rattle.strip_rules.specs.Strip.{Answer, stripFields, strip}
 use Rattle.strip_rules.specs.Answers.{answerOf, leaves}
 use Rattle.strip_laws.proofs.Laws.{Listed}
 use Rattle.strip_laws.proofs.Alike.{same-stripped}
@@ -73,7 +74,7 @@ answer-spelled s list old new r first own n w h a =
 module _ (s list old : List ℕ) (r : Stripped) (big : Bool) (b : big ≡ ltb byteLimit (length s)) where
   pub answer-1 : big ≡ true → r ≡ record { number = 1; place = 0; kept = 0; removed = 0; fields = 0 } → Answered (strip s list (length old)) old old r
   unfolding strip
-  answer-1 h e = refused (strip s list (length old)) old r 1 0 e (let t : ltb byteLimit (length s) ≡ true = sym b ∙ h in rw (strip, t))
+  answer-1 h e = refused (strip s list (length old)) old r 1 0 e (let t : ltb byteLimit (length s) ≡ true = sym b ∙ h in rw (strip, byList, t))
 
   module _ (h : big ≡ false) where
     small : ltb byteLimit (length s) ≡ false
@@ -84,12 +85,12 @@ module _ (s list old : List ℕ) (r : Stripped) (big : Bool) (b : big ≡ ltb by
     unfolding strip
     answer-5 p q e =
         let f = bad-five list p q in
-        refused (strip s list (length old)) old r 5 p e (rw (strip, small, orRefusal, f .0, f .1))
+        refused (strip s list (length old)) old r 5 p e (rw (strip, byList, small, orRefusal, f .0, f .1))
 
     module _ (g : Good ≡ checkedOf (ownList list)) (new : List ℕ) where
       behind : strip s list (length old) ≡ stripFields s (Listed list) (length old)
       unfolding strip
-      behind = rw (strip, small, orRefusal, good-zero list g)
+      behind = rw (strip, byList, small, orRefusal, good-zero list g)
 
       pub answer-listed : Answered (stripFields s (Listed list) (length old)) old new r → Answered (strip s list (length old)) old new r
       answer-listed a = (rw behind (a .0), rw behind (a .1))

@@ -13,8 +13,9 @@ use Rattle.base_sequences.proofs.Splices.{wrote-count, wrote-front}
 use Rattle.base_readers.specs.Walks.{Walked}
 use Rattle.block_rules.specs.Fields.{Field, fields, bytesOf}
 use Rattle.block_laws.proofs.Fields.{fields-fine, walk-back}
+use Rattle.ownlist_rules.specs.Calls.{orRefusal, byFields, orShort}
 use Rattle.strip_rules.specs.declared.Stripped.{Stripped}
-use Rattle.strip_rules.specs.Strip.{Answer, refuse, removedOf, keptOf, done, fitted, orRefusal, stripFields}
+use Rattle.strip_rules.specs.Strip.{Answer, refuse, removedOf, keptOf, done, fitted, stripFields}
 use Rattle.strip_fields.specs.Sifting.{Sifted}
 use Rattle.text_parts.specs.Between.{between}
 use Rattle.strip_copy.specs.Internal.{Marked}
@@ -57,7 +58,7 @@ module _ (s : List ℕ) (listed : List ℕ → Bool) (old : List ℕ) (r m : Str
       go zero z = absurd (ne z)
       go (suc n) z =
           let f : fields s .number ≡ suc n = sym (k .number) ∙ z in
-          refused (stripFields s listed (length old)) old r (m .number) (m .place) e (rw (stripFields, orRefusal, f, z, k .place))
+          refused (stripFields s listed (length old)) old r (m .number) (m .place) e (rw (stripFields, byFields, orRefusal, f, z, k .place))
 
   module _ (z : m .number ≡ 0) where
     sound : fields s .number ≡ 0
@@ -70,14 +71,14 @@ module _ (s : List ℕ) (listed : List ℕ → Bool) (old : List ℕ) (r m : Str
     unfolding stripFields fitted
     answer-6 l e =
         let t : ltb (length old) (length (bytesOf (keptOf listed (fields s .items)))) ≡ true = lt-ltb _ _ (rw needed at l) in
-        refused (stripFields s listed (length old)) old r 6 (m .kept) e (rw (stripFields, orRefusal, sound, fitted, t, needed))
+        refused (stripFields s listed (length old)) old r 6 (m .kept) e (rw (stripFields, byFields, orRefusal, sound, fitted, orShort, t, needed))
 
     pub answer-0 : m .kept ≤ length old → (out : List ℕ) → Sifted s listed old out r → Answered (stripFields s listed (length old)) old out r
     unfolding stripFields fitted
     answer-0 l out d =
         let fits : length (bytesOf (keptOf listed (fields s .items))) ≤ length old = rw needed at l in
         let t : ltb (length old) (length (bytesOf (keptOf listed (fields s .items)))) ≡ false = le-ltb _ _ fits in
-        let is : stripFields s listed (length old) ≡ done (keptOf listed (fields s .items)) (removedOf listed (fields s .items)) = rw (stripFields, orRefusal, sound, fitted, t) in
+        let is : stripFields s listed (length old) ≡ done (keptOf listed (fields s .items)) (removedOf listed (fields s .items)) = rw (stripFields, byFields, orRefusal, sound, fitted, orShort, t) in
         (rw is (same r _ _ _ _ _ (d .number ∙ sound) (d .place ∙ fields-place s sound) (wrote-count (d .wrote)) (d .removed) (d .fields)), rw is (wrote-front (d .wrote) fits))
       where
         same : (r : Stripped) (n p k q f : ℕ) → r .number ≡ n → r .place ≡ p → r .kept ≡ k → r .removed ≡ q → r .fields ≡ f

@@ -1,15 +1,15 @@
 -- Where the same identifiers are listed, stripping gives the same.
-use Prim.Native.Nat.{ℕ, zero, suc}
+use Prim.Native.Nat.{ℕ}
 use mathlib.Core.Path.{_≡_, refl, sym, ap, _∙_}
 use mathlib.Core.Bool.{Bool, true, false, not, _&&_}
 use mathlib.Core.List.{List, [], _∷_}
 use Rattle.base_readers.specs.Texts.{bytes}
 use Rattle.base_readers.specs.Parsers.{Got, nothing, got}
-use Rattle.base_readers.specs.Walks.{Walked}
 use Rattle.block_rules.specs.Fields.{Field, bodyOf, named, fields, select}
 use Rattle.block_laws.proofs.Fields.{select-yes, select-no}
 use Rattle.identifier_rules.specs.Identifier.{identifier}
-use Rattle.strip_rules.specs.Strip.{oursOrUnreadable, isRemoved, removedOf, keptOf, Answer, fitted, orRefusal, stripFields}
+use Rattle.ownlist_laws.proofs.CallCases.{or-refusal-same}
+use Rattle.strip_rules.specs.Strip.{oursOrUnreadable, isRemoved, removedOf, keptOf, refuse, fitted, stripFields}
 
 same-select : (p q : Field → Bool) → ((f : Field) → p f ≡ q f) → (fs : List Field) → select p fs ≡ select q fs
 unfolding select
@@ -19,13 +19,6 @@ same-select p q h (f ∷ fs) = go (q f) refl (same-select p q h fs)
     go : (t : Bool) → q f ≡ t → select p fs ≡ select q fs → select p (f ∷ fs) ≡ select q (f ∷ fs)
     go true e ih = select-yes p f fs (h f ∙ e) ∙ (ap (λ (l : List Field). f ∷ l) ih ∙ sym (select-yes q f fs e))
     go false e ih = select-no p f fs (h f ∙ e) ∙ (ih ∙ sym (select-no q f fs e))
-
-unless-same : {A : Type 0} (w : Walked A) (f g : List A → Answer) → ((l : List A) → f l ≡ g l) → orRefusal w f ≡ orRefusal w g
-unless-same w f g h = go (w .number) refl
-  where
-    go : (n : ℕ) → w .number ≡ n → orRefusal w f ≡ orRefusal w g
-    go zero e = rw e (h (w .items))
-    go (suc n) e = rw e
 
 module _ (listed listed′ : List ℕ → Bool) (same : (i : List ℕ) → listed i ≡ listed′ i) where
   pub same-goes : (f : Field) → isRemoved listed f ≡ isRemoved listed′ f
@@ -45,7 +38,7 @@ module _ (listed listed′ : List ℕ → Bool) (same : (i : List ℕ) → liste
   pub same-stripped : (block : List ℕ) (room : ℕ) → stripFields block listed room ≡ stripFields block listed′ room
   unfolding stripFields
   same-stripped block room =
-      unless-same (fields block) (λ fs. fitted (keptOf listed fs) (removedOf listed fs) room) (λ fs. fitted (keptOf listed′ fs) (removedOf listed′ fs) room) each
+      or-refusal-same refuse (fields block) (λ fs. fitted (keptOf listed fs) (removedOf listed fs) room) (λ fs. fitted (keptOf listed′ fs) (removedOf listed′ fs) room) each
     where
       each : (fs : List Field) → fitted (keptOf listed fs) (removedOf listed fs) room ≡ fitted (keptOf listed′ fs) (removedOf listed′ fs) room
       each fs = rw (same-gone fs, same-stays fs)

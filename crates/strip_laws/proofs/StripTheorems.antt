@@ -1,33 +1,22 @@
 -- What stripping promises beyond its contract. Each theorem is about the definition that the contract of `strip::strip` cites.
-use Prim.Native.Nat.{ℕ, zero, suc, _+_, _≤_}
+use Prim.Native.Nat.{ℕ, _+_, _≤_}
 use native.Mathlib.Omega.{arith}
-use mathlib.Core.Path.{_≡_, refl, sym, ap, _∙_}
+use mathlib.Core.Path.{_≡_, refl, ap, _∙_}
 use mathlib.Core.Bool.{Bool, true, false, not, _||_}
 use mathlib.Core.List.{List, [], _∷_, _++_}
-use lib.Dec.{ltb}
 use lib.ListN.{length}
 use Rattle.base_readers.specs.Walks.{Walked}
-use Rattle.lexis_rules.specs.Limits.{byteLimit}
 use Rattle.block_rules.specs.Fields.{Field, fields, bytesOf}
 use Rattle.ownlist_rules.specs.OwnList.{ownList}
 use Rattle.block_laws.proofs.Fields.{fields-fine, select-fields, select-sum, select-again, select-none}
 use Rattle.identifier_rules.specs.Identifier.{sameIdentifier}
 use Rattle.ownlist_rules.specs.Listed.{among}
-use Rattle.strip_rules.specs.Strip.{isRemoved, removedOf, keptOf, Answer, refuse, fitted, orRefusal, stripFields, strip}
+use Rattle.ownlist_laws.proofs.CallCases.{by-list-same}
+use Rattle.strip_rules.specs.Strip.{isRemoved, removedOf, keptOf, Answer, refuse, stripFields, strip}
 use Rattle.strip_rules.specs.Answers.{leaves}
-use Rattle.strip_laws.proofs.Laws.{Listed, strip-to, strip-is, strip-sound}
+use Rattle.strip_rules.specs.Terms.{Known}
+use Rattle.strip_laws.proofs.Laws.{Listed, strip-order, strip-sound}
 use Rattle.strip_laws.proofs.Alike.{same-stripped}
-
--- where the first answers are not given
-module _ (block list : List ℕ) (room : ℕ) where
-  strip-big : ltb byteLimit (length block) ≡ true → strip block list room ≡ refuse 1 0
-  unfolding strip
-  strip-big e = rw (strip, e)
-
-  strip-list : ltb byteLimit (length block) ≡ false → (own : List (List ℕ)) → ownList list ≡ record { items = own; number = 0; place = 0 }
-      → strip block list room ≡ stripFields block (among own) room
-  unfolding strip
-  strip-list e own q = rw (strip, e, q)
 
 -- zero counts, and nothing is written
 abbrev pub Silent : Answer → Type 0
@@ -35,33 +24,7 @@ Silent a = a ≡ refuse (a .number) (a .place)
 
 -- A refusal returns zero counts and writes nothing.
 pub strip-refused : (block list : List ℕ) (room : ℕ) → (strip block list room .number ≡ 0 → ⊥) → Silent (strip block list room)
-unfolding strip stripFields fitted
-strip-refused block list room ne = big (ltb byteLimit (length block)) refl
-  where
-    keeps : List Field
-    keeps = keptOf (Listed list) (fields block .items)
-
-    given : (n p : ℕ) → strip block list room ≡ refuse n p → Silent (strip block list room)
-    given n p e = rw e
-
-    room-is : ltb byteLimit (length block) ≡ false → ownList list .number ≡ 0 → fields block .number ≡ 0
-        → (t : Bool) → ltb room (length (bytesOf keeps)) ≡ t → Silent (strip block list room)
-    room-is a b c true d = given 6 (length (bytesOf keeps)) (rw (strip-to block list room a b c, fitted, d))
-    room-is a b c false d = absurd (ne (rw (strip-to block list room a b c, fitted, d)))
-
-    block-is : ltb byteLimit (length block) ≡ false → ownList list .number ≡ 0 → (n : ℕ) → fields block .number ≡ n
-        → Silent (strip block list room)
-    block-is a b zero c = room-is a b c (ltb room (length (bytesOf keeps))) refl
-    block-is a b (suc n) c = given (suc n) (fields block .place) (rw (strip, a, orRefusal, b, stripFields, orRefusal, c))
-
-    list-is : ltb byteLimit (length block) ≡ false → (n : ℕ) → ownList list .number ≡ n
-        → Silent (strip block list room)
-    list-is a zero b = block-is a b (fields block .number) refl
-    list-is a (suc n) b = given (suc n) (ownList list .place) (rw (strip, a, orRefusal, b))
-
-    big : (t : Bool) → ltb byteLimit (length block) ≡ t → Silent (strip block list room)
-    big true a = given 1 0 (strip-big block list room a)
-    big false a = list-is a (ownList list .number) refl
+strip-refused block list room = strip-order block list room .refused
 
 -- So it leaves the lent buffer as it was.
 pub strip-silent : (block list old : List ℕ) → (strip block list (length old) .number ≡ 0 → ⊥) → leaves (strip block list (length old)) old ≡ old
@@ -97,8 +60,8 @@ module _ (block list : List ℕ) (room : ℕ) (z : strip block list room .number
       let nothing : removedOf listed (keptOf listed fs) ≡ [] = select-none (isRemoved listed) fs in
       let all = ap length (fields-fine block (s .fielded) .bytes) in
       let roomy : length out ≤ room′ = rw (s .is) at h in
-      let r = strip-is out list room′ (omega (arith, select-sum (isRemoved listed) fs, all, s .small)) (s .listed)
-      (ap (λ (w : Walked Field). w .number) t) (rw (items, again) roomy) in
+      let known : Known out list = (omega (arith, select-sum (isRemoved listed) fs, all, s .small), (s .listed, ap (λ (w : Walked Field). w .number) t)) in
+      let r = strip-order out list room′ .when-zero known (rw (items, again) roomy) in
       rw (s .is) (r ∙ rw (items, again, nothing))
 
 -- ==== a repeated list entry changes nothing
@@ -123,16 +86,7 @@ pub strip-repeated : (block list list′ : List ℕ) (room : ℕ) (e : List ℕ)
     → ownList list ≡ record { items = xs ++ (e ∷ (ys ++ zs)); number = 0; place = 0 }
     → ownList list′ ≡ record { items = xs ++ (e ∷ (ys ++ (e ∷ zs))); number = 0; place = 0 }
     → strip block list′ room ≡ strip block list room
-strip-repeated block list list′ room e xs ys zs a b = go (ltb byteLimit (length block)) refl
-  where
-    own : List (List ℕ)
-    own = xs ++ (e ∷ (ys ++ zs))
-
-    own′ : List (List ℕ)
-    own′ = xs ++ (e ∷ (ys ++ (e ∷ zs)))
-
-    go : (t : Bool) → ltb byteLimit (length block) ≡ t → strip block list′ room ≡ strip block list room
-    go true q = strip-big block list′ room q ∙ sym (strip-big block list room q)
-    go false q =
-        strip-list block list′ room q own′ b
-        ∙ (same-stripped (among own′) (among own) (λ i. among-again e i xs ys zs) block room ∙ sym (strip-list block list room q own a))
+unfolding strip
+strip-repeated block list list′ room e xs ys zs a b =
+    by-list-same refuse block list′ list (λ own. stripFields block (among own) room) (rw b) (rw a)
+    (rw (a, b) (same-stripped (among (xs ++ (e ∷ (ys ++ (e ∷ zs))))) (among (xs ++ (e ∷ (ys ++ zs)))) (λ i. among-again e i xs ys zs) block room))

@@ -7,6 +7,7 @@ use Rattle.base_readers.specs.Texts.{bytes}
 use Rattle.base_readers.proofs.Cases.{case, Says}
 use Rattle.block_rules.proofs.Examples as block
 use Rattle.ownlist_rules.proofs.Unfolding as authserv
+use Rattle.ownlist_rules.specs.Calls.{byList}
 use Rattle.strip_rules.specs.Strip.{oursOrUnreadable, isRemoved, Answer, fitted, stripFields, strip}
 use Rattle.strip_rules.specs.Answers.{answerOf, leaves}
 
@@ -115,20 +116,20 @@ rooms = refl
 -- 1 before 5 and before 2: every block of 65,537 bytes that starts with an LF, with a bad list and with a good one
 long : (rest : List ℕ) → length rest ≡ 65536 → strip (10 ∷ rest) (bytes "\n") 0 ≡ refuses 1 0
 unfolding opened
-long rest e = rw (strip, e)
+long rest e = rw (strip, byList, e)
 
 long-good-list : (rest : List ℕ) → length rest ≡ 65536 → strip (10 ∷ rest) [] 0 ≡ refuses 1 0
 unfolding opened
-long-good-list rest e = rw (strip, e)
+long-good-list rest e = rw (strip, byList, e)
 
 -- one of 65,536 is walked, after the list
 limit : (rest : List ℕ) → length rest ≡ 65535 → strip (10 ∷ rest) (bytes "\n") 0 ≡ refuses 5 0
 unfolding opened
-limit rest e = rw (strip, e)
+limit rest e = rw (strip, byList, e)
 
 limit-good-list : (rest : List ℕ) → length rest ≡ 65535 → strip (10 ∷ rest) [] 0 ≡ refuses 2 0
 unfolding opened
-limit-good-list rest e = rw (strip, e)
+limit-good-list rest e = rw (strip, byList, e)
 
 -- ==== what the caller sees
 

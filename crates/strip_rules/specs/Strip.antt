@@ -1,17 +1,14 @@
 -- Document 01, "Stripping", and its answers in order.
-use Prim.Native.Nat.{ℕ, zero, suc}
-use mathlib.Core.Bool.{Bool, true, false, not, _&&_}
+use Prim.Native.Nat.{ℕ}
+use mathlib.Core.Bool.{Bool, true, not, _&&_}
 use mathlib.Core.List.{List, []}
-use lib.Dec.{ltb}
 use lib.ListN.{length}
 use Rattle.base_readers.specs.Texts.{bytes}
 use Rattle.base_readers.specs.Parsers.{nothing, got}
-use Rattle.base_readers.specs.Walks.{Walked}
-use Rattle.lexis_rules.specs.Limits.{byteLimit}
-use Rattle.block_rules.specs.Fields.{Field, bodyOf, named, fields, bytesOf, select}
-use Rattle.ownlist_rules.specs.OwnList.{ownList}
+use Rattle.block_rules.specs.Fields.{Field, bodyOf, named, bytesOf, select}
 use Rattle.identifier_rules.specs.Identifier.{identifier}
 use Rattle.ownlist_rules.specs.Listed.{among}
+use Rattle.ownlist_rules.specs.Calls.{byList, byFields, orShort}
 
 -- whose identifier is unreadable or listed. The rest of the body doesn't matter
 unfoldable pub oursOrUnreadable : (List ℕ → Bool) → List ℕ → Bool
@@ -54,17 +51,12 @@ done keeps goers =
 
 -- 6: lent output shorter than the whole output; its place is the bytes needed
 unfoldable pub fitted : List Field → List Field → ℕ → Answer
-fitted keeps goers room = elim (ltb room (length (bytesOf keeps))) [ true ↦ refuse 6 (length (bytesOf keeps)) | false ↦ done keeps goers ]
-
--- a walk's refusal, or what its items give
-abbrev pub orRefusal : {A : Type 0} → Walked A → (List A → Answer) → Answer
-orRefusal w f = elim (w .number) [ zero ↦ f (w .items) | suc n ↦ refuse (suc n) (w .place) ]
+fitted keeps goers room = orShort refuse room (length (bytesOf keeps)) (done keeps goers)
 
 -- 01, Answer numbers: 2 to 4, then 6
 unfoldable pub stripFields : List ℕ → (List ℕ → Bool) → ℕ → Answer
-stripFields block listed room = orRefusal (fields block) (λ fs. fitted (keptOf listed fs) (removedOf listed fs) room)
+stripFields block listed room = byFields refuse block (λ fs. fitted (keptOf listed fs) (removedOf listed fs) room)
 
 -- 01, Answer numbers: stripping 1, 5, then 2 to 4, then 6. An identifier is listed when it equals a list entry
 unfoldable pub strip : List ℕ → List ℕ → ℕ → Answer
-strip block list room =
-    elim (ltb byteLimit (length block)) [ true ↦ refuse 1 0 | false ↦ orRefusal (ownList list) (λ own. stripFields block (among own) room) ]
+strip block list room = byList refuse block list (λ own. stripFields block (among own) room)
