@@ -1,32 +1,29 @@
 -- The answers of the report of a block, one law for each way out of the code.
-use Prim.Native.Nat.{ℕ, zero, suc, _≤_, _<_}
+use Prim.Native.Nat.{ℕ, zero, suc, _≤_}
 use native.Mathlib.Omega.{arith}
 use mathlib.Core.Path.{_≡_, refl, sym, ap, _∙_}
-use mathlib.Core.Bool.{Bool, true, false}
+use mathlib.Core.Bool.{true, false}
 use mathlib.Core.List.{List}
-use borrow.Author.Tests.{lt-ltb, le-ltb, ltb-false}
+use borrow.Author.Tests.{lt-ltb, le-ltb}
 use lib.Dec.{ltb}
 use lib.ListN.{length, take}
 use lib.Seq.{sets, length-sets}
 use Rattle.base_sequences.specs.Stored.{Put}
 use Rattle.base_sequences.proofs.Splices.{sets-front, put-front}
 use Rattle.base_readers.specs.Parsers.{Got}
-use Rattle.lexis_rules.specs.Limits.{byteLimit}
-use Rattle.ownlist_check.specs.declared.Checked.the-variants.{Good, Bad}
-use Rattle.ownlist_check.specs.Steps.{checkedOf, numberOf, placeOf}
-use Rattle.ownlist_check.proofs.ListAnswers.{check-number, check-place}
 use Rattle.block_rules.specs.Fields.{fields}
 use Rattle.block_laws.proofs.Fields.{fields-place}
-use Rattle.punycode_rules.specs.Labels.{doubleHyphen}
 use Rattle.ownlist_rules.specs.declared.Own.{Own}
 use Rattle.ownlist_rules.specs.OwnList.{ownList}
 use Rattle.ownlist_rules.specs.Listed.{ownOf}
-use Rattle.ownlist_rules.specs.Calls.{orRefusal, byList, byFields, orShort}
+use Rattle.ownlist_rules.specs.Calls.{orRefusal, byFields, orShort}
 use Rattle.base_readers.specs.Lines.{linesOf}
 use Rattle.ownlist_rules.specs.Spelled.{spelledList, ownOfSpelled}
 use Rattle.ownlist_spelled.proofs.Fits.{fits-room}
-use Rattle.ownlist_laws.proofs.AsCompared.{list-own, list-plain}
-use Rattle.ownlist_laws.proofs.OwnLists.{list-length}
+use Rattle.ownlist_laws.proofs.AsCompared.{list-own}
+use Rattle.ownlist_ready.specs.declared.Ready.the-variants.{Refused, AsItStands, ToSpell}
+use Rattle.ownlist_ready.specs.Answers.{readyOf}
+use Rattle.ownlist_ready.proofs.CallsGoOn.{ready-refused, ready-as-it-stands, ready-to-spell, as-it-stands-spelled}
 use Rattle.blockreport_rules.specs.declared.BlockReported.{BlockReported}
 use Rattle.blockreport_rules.specs.Reports.{Answer, refuse, fitted, reportFields, reports}
 use Rattle.blockreport_rules.specs.Answers.{answerOf, leaves}
@@ -123,42 +120,26 @@ module _ (list first own : List ℕ) (n : ℕ) (w : Put first 0 (spelledList (ow
 
 -- ==== the whole
 
--- where the first test does not refuse, the block is within the limit
-pub within-limit : (s : List ℕ) (big : Bool) → big ≡ ltb byteLimit (length s) → big ≡ false → length s ≤ byteLimit
-within-limit s big b h = ltb-false byteLimit (length s) (sym b ∙ h)
+module _ (s list old : List ℕ) (r : BlockReported) where
+  abbrev by : List (List ℕ) → Answer
+  by own = reportFields s (ownOf own) (length old)
 
-module _ (s list old : List ℕ) (r : BlockReported) (big : Bool) (b : big ≡ ltb byteLimit (length s)) where
-  pub answer-1 : big ≡ true → r ≡ record { number = 1; place = 0; written = 0 } → Answered (reports s list (length old)) old old r
+  -- refused before the block is walked
+  pub answer-1-5 : (n p : ℕ) → Refused n p ≡ readyOf s list → r ≡ record { number = n; place = p; written = 0 } → Answered (reports s list (length old)) old old r
   unfolding reports
-  answer-1 h e = refused (reports s list (length old)) old r 1 0 e (let t : ltb byteLimit (length s) ≡ true = sym b ∙ h in rw (reports, byList, t))
+  answer-1-5 n p q e = refused (reports s list (length old)) old r n p e (ready-refused s list refuse by n p q)
 
-  module _ (h : big ≡ false) where
-    small : ltb byteLimit (length s) ≡ false
-    small = sym b ∙ h
+  pub answer-listed : (new : List ℕ) → ToSpell ≡ readyOf s list → Answered (reportFields s (ownOf (ownList list .items)) (length old)) old new r
+      → Answered (reports s list (length old)) old new r
+  unfolding reports
+  answer-listed new q = meant _ _ old new r (sym (ready-to-spell s list refuse by q))
 
-    pub answer-5 : (p : ℕ) → Bad p ≡ checkedOf (ownList list) → r ≡ record { number = 5; place = p; written = 0 } → Answered (reports s list (length old)) old old r
-    unfolding reports
-    answer-5 p q e =
-        let five : ownList list .number ≡ 5 = sym (check-number list) ∙ ap numberOf (sym q) in
-        let at : ownList list .place ≡ p = sym (check-place list five) ∙ ap placeOf (sym q) in
-        refused (reports s list (length old)) old r 5 p e (rw (reports, byList, small, orRefusal, five, at))
-
-    module _ (g : Good ≡ checkedOf (ownList list)) (new : List ℕ) where
-      good : ownList list .number ≡ 0
-      good = sym (check-number list) ∙ ap numberOf (sym g)
-
-      behind : reportFields s (ownOf (ownList list .items)) (length old) ≡ reports s list (length old)
-      unfolding reports
-      behind = rw (reports, byList, small, orRefusal, good)
-
-      pub answer-listed : Answered (reportFields s (ownOf (ownList list .items)) (length old)) old new r → Answered (reports s list (length old)) old new r
-      answer-listed a = meant _ _ old new r behind a
-
-      -- a list without two hyphens in a row is compared as it stands
-      pub answer-plain : (t : Bool) → t ≡ doubleHyphen list → t ≡ false → Answered (reportFields s (ownOfSpelled (linesOf list)) (length old)) old new r
-          → Answered (reports s list (length old)) old new r
-      answer-plain t e z a =
-          let l : spelledList (ownList list .items) ≡ list = list-plain list good (sym e ∙ z) in
-          let q : reportFields s (ownOfSpelled (linesOf list)) (length old) ≡ reportFields s (ownOf (ownList list .items)) (length old) =
-          same-reported (ownOfSpelled (linesOf list)) (ownOf (ownList list .items)) (λ i. rw l at (list-own list i)) s (length old) in
-          answer-listed (meant _ _ old new r q a)
+  -- a list without two hyphens in a row is compared as it stands
+  pub answer-plain : (new : List ℕ) → AsItStands ≡ readyOf s list → Answered (reportFields s (ownOfSpelled (linesOf list)) (length old)) old new r
+      → Answered (reports s list (length old)) old new r
+  unfolding reports
+  answer-plain new q =
+      let e = as-it-stands-spelled s list q in
+      meant _ _ old new r
+      (same-reported (ownOfSpelled (linesOf list)) (ownOf (ownList list .items)) (λ g. rw e at (list-own list g)) s (length old)
+      ∙ sym (ready-as-it-stands s list refuse by q))

@@ -16,7 +16,7 @@ use base_answers::Number;
 use block::Next;
 use block::Walk;
 use blockreport_rules::BlockReported;
-use ownlist_check::Checked;
+use ownlist_ready::Ready;
 use text_first_pass::Copy;
 ghost use mathlib.Core.Path.{_≡_};
 ghost use Prim.Native.Nat.{_≤_};
@@ -121,17 +121,9 @@ pub fn reports(block: &[u8], list: &[u8], out: &mut [u8]) -> BlockReported
     ensures { λ r. ⌜ r ≡ answerOf (reports (now (block .entry)) (now (list .entry)) (length (now (out .entry)))) ⌝ }
     ensures { λ _. ⌜ now (out .exit) ≡ leaves (reports (now (block .entry)) (now (list .entry)) (length (now (out .entry)))) (now (out .entry)) ⌝ }
 {
-    if lexis_space::too_long(block) {
-        return refuse(Number::TOO_LONG, 0);
+    match ownlist_ready::readiness(block, list) {
+        Ready::Refused { number, place } => refuse(number, place),
+        Ready::AsItStands => reports_by(block, list, out),
+        Ready::ToSpell => reports_spelled(block, list, out),
     }
-    match ownlist_check::check_list(list) {
-        Checked::Bad { place } => {
-            return refuse(Number::BAD_LIST, place);
-        }
-        Checked::Good => {}
-    }
-    if punycode_hyphens::has_double_hyphen(list) {
-        return reports_spelled(block, list, out);
-    }
-    reports_by(block, list, out)
 }

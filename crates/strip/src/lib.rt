@@ -10,9 +10,8 @@
 //   4  a 513th field: its start
 //   6  `out` is too short: the bytes needed
 // tried in this order. A refusal writes nothing and returns zero counts; bytes past those written stay unchanged.
-use base_answers::Number;
-use ownlist_check::Checked;
 use ownlist_check::Entries;
+use ownlist_ready::Ready;
 use strip_rules::Stripped;
 ghost use mathlib.Core.Path.{_≡_};
 ghost use Prim.Native.Nat.{_≤_};
@@ -63,17 +62,9 @@ pub fn strip(s: &[u8], list: &[u8], out: &mut [u8]) -> Stripped
     ensures { λ r. ⌜ r ≡ answerOf (strip (now (s .entry)) (now (list .entry)) (length (now (out .entry)))) ⌝ }
     ensures { λ _. ⌜ now (out .exit) ≡ leaves (strip (now (s .entry)) (now (list .entry)) (length (now (out .entry)))) (now (out .entry)) ⌝ }
 {
-    if lexis_space::too_long(s) {
-        return refuse(Number::TOO_LONG, 0);
+    match ownlist_ready::readiness(s, list) {
+        Ready::Refused { number, place } => refuse(number, place),
+        Ready::AsItStands => strip_lines(s, list, out),
+        Ready::ToSpell => strip_spelled(s, list, out),
     }
-    match ownlist_check::check_list(list) {
-        Checked::Bad { place } => {
-            return refuse(Number::BAD_LIST, place);
-        }
-        Checked::Good => {}
-    }
-    if punycode_hyphens::has_double_hyphen(list) {
-        return strip_spelled(s, list, out);
-    }
-    strip_lines(s, list, out)
 }

@@ -1,0 +1,2 @@
+pub mod ReadyExamples
+pub mod CallsGoOn
