@@ -1,7 +1,7 @@
 -- The answers of the report of a block, one law for each way out of the code.
-use Prim.Native.Nat.{ℕ, zero, suc, _≤_}
+use Prim.Native.Nat.{ℕ, _≤_}
 use native.Mathlib.Omega.{arith}
-use mathlib.Core.Path.{_≡_, refl, sym, ap, _∙_}
+use mathlib.Core.Path.{_≡_, sym, ap, _∙_}
 use mathlib.Core.Bool.{true, false}
 use mathlib.Core.List.{List}
 use borrow.Author.Tests.{lt-ltb, le-ltb}
@@ -21,11 +21,12 @@ use Rattle.base_readers.specs.Lines.{linesOf}
 use Rattle.ownlist_rules.specs.Spelled.{spelledList, ownOfSpelled}
 use Rattle.ownlist_spelled.proofs.Fits.{fits-room}
 use Rattle.ownlist_laws.proofs.AsCompared.{list-own}
+use Rattle.ownlist_laws.proofs.CallCases.{by-fields-refused}
 use Rattle.ownlist_ready.specs.declared.Ready.the-variants.{Refused, AsItStands, ToSpell}
 use Rattle.ownlist_ready.specs.Answers.{readyOf}
 use Rattle.ownlist_ready.proofs.CallsGoOn.{ready-refused, ready-as-it-stands, ready-to-spell, as-it-stands-spelled}
 use Rattle.blockreport_rules.specs.declared.BlockReported.{BlockReported}
-use Rattle.blockreport_rules.specs.Reports.{Answer, refuse, fitted, reportFields, reports}
+use Rattle.blockreport_rules.specs.Reports.{additions, Answer, refuse, fitted, reportFields, reports}
 use Rattle.blockreport_rules.specs.Answers.{answerOf, leaves}
 use Rattle.blockreport_laws.proofs.Whose.{same-reported}
 use Rattle.text_first_pass.specs.declared.Copy.{Copy}
@@ -65,13 +66,9 @@ copied s whose old first new m k h out p =
 module _ (s : List ℕ) (whose : Got (List ℕ) → Own) (old : List ℕ) (r m : BlockReported) (first new : List ℕ) (k : FieldsPut s whose first new m) where
   pub answer-2-4 : (m .number ≡ 0 → ⊥) → r ≡ record { number = m .number; place = m .place; written = 0 } → Answered (reportFields s whose (length old)) old old r
   unfolding reportFields
-  answer-2-4 ne e = go (m .number) refl
-    where
-      go : (n : ℕ) → m .number ≡ n → Answered (reportFields s whose (length old)) old old r
-      go zero z = absurd (ne z)
-      go (suc n) z =
-          let f : fields s .number ≡ suc n = sym (k .number) ∙ z in
-          refused (reportFields s whose (length old)) old r (m .number) (m .place) e (rw (reportFields, byFields, orRefusal, f, z, k .place))
+  answer-2-4 ne e =
+      refused (reportFields s whose (length old)) old r (m .number) (m .place) e
+      (by-fields-refused refuse s (λ fs. fitted (additions whose 1 fs) (length old)) (m .number) (m .place) (k .number) (k .place) ne)
 
   module _ (z : m .number ≡ 0) where
     sound : fields s .number ≡ 0

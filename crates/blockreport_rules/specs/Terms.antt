@@ -1,12 +1,10 @@
 -- What the theorems on the report of a block speak of.
-use Prim.Native.Nat.{ℕ, _≤_}
-use mathlib.Core.Path.{_≡_}
+use Prim.Native.Nat.{ℕ}
 use mathlib.Core.List.{List}
-use lib.ListN.{length}
-use Rattle.lexis_rules.specs.Limits.{byteLimit}
 use Rattle.block_rules.specs.Fields.{fields}
 use Rattle.ownlist_rules.specs.OwnList.{ownList}
 use Rattle.ownlist_rules.specs.Listed.{ownOf}
+use Rattle.ownlist_rules.specs.Calls as calls
 use Rattle.blockreport_rules.specs.Reports.{additions}
 
 -- what the fields of a block add, by a list
@@ -15,4 +13,4 @@ blockText block list = additions (ownOf (ownList list .items)) 1 (fields block .
 
 -- it is known: the block is within the limit, the list is good, and the walk over the block comes to its end
 abbrev pub Known : List ℕ → List ℕ → Type 0
-Known block list = (length block ≤ byteLimit) × ((ownList list .number ≡ 0) × (fields block .number ≡ 0))
+Known = calls.Known

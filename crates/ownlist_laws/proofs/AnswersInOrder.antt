@@ -12,13 +12,9 @@ use Rattle.lexis_rules.specs.Limits.{byteLimit}
 use Rattle.block_rules.specs.Fields.{Field, fields}
 use Rattle.block_laws.proofs.Fields.{fields-numbers}
 use Rattle.ownlist_rules.specs.OwnList.{ownList}
-use Rattle.ownlist_rules.specs.Calls.{byList, byFields, orShort}
+use Rattle.ownlist_rules.specs.Calls.{byList, byFields, orShort, Known}
 use Rattle.ownlist_laws.proofs.Entries.{list-five}
 use Rattle.ownlist_laws.proofs.CallCases.{by-list-long, by-list-bad, by-list-good, by-fields-cut, by-fields-whole, or-short-short, or-short-fits}
-
--- nothing is refused before the rest: the block is within the limit, the list is good, and the walk over the block comes to its end
-abbrev pub Known : List ℕ → List ℕ → Type 0
-Known s list = (length s ≤ byteLimit) × ((ownList list .number ≡ 0) × (fields s .number ≡ 0))
 
 -- ==== the four courses
 

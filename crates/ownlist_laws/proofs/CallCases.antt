@@ -1,6 +1,6 @@
 -- The definitions of the order of refusals, each opened at each of its cases; and what is the same where a call goes on the same.
 use Prim.Native.Nat.{ℕ, zero, suc, _≤_, _<_}
-use mathlib.Core.Path.{_≡_, refl, sym, _∙_}
+use mathlib.Core.Path.{_≡_, refl, sym, ap, _∙_}
 use mathlib.Core.Bool.{Bool, true, false}
 use mathlib.Core.List.{List}
 use borrow.Author.Tests.{lt-ltb, le-ltb, ltb-true, ltb-false}
@@ -29,6 +29,11 @@ module _ {B : Type 0} (refuse : ℕ → ℕ → B) where
 
     pub by-fields-whole : fields block .number ≡ 0 → byFields refuse block f ≡ f (fields block .items)
     by-fields-whole e = rw (byFields, orRefusal, e)
+
+    -- by the number and the place that were found
+    pub by-fields-refused : (n p : ℕ) → n ≡ fields block .number → p ≡ fields block .place → (n ≡ 0 → ⊥) → byFields refuse block f ≡ refuse n p
+    by-fields-refused zero p e q ne = absurd (ne refl)
+    by-fields-refused (suc n) p e q ne = by-fields-cut n (sym e) ∙ ap (refuse (suc n)) (sym q)
 
   module _ (room size : ℕ) (a : B) where
     pub or-short-short : room < size → orShort refuse room size a ≡ refuse 6 size

@@ -1,6 +1,7 @@
 -- The order of refusals of a call that is handed a block, or a field body, and our own list: document 01, "Answer numbers": stripping 1, 5, then 2 to 4,
 -- then 6. In each definition `refuse` makes the call's refusal from its number and place.
-use Prim.Native.Nat.{ℕ, zero, suc}
+use Prim.Native.Nat.{ℕ, zero, suc, _≤_}
+use mathlib.Core.Path.{_≡_}
 use mathlib.Core.Bool.{true, false}
 use mathlib.Core.List.{List}
 use lib.Dec.{ltb}
@@ -25,3 +26,7 @@ byFields refuse block f = orRefusal refuse (fields block) f
 -- 01, Answer numbers: then 6, lent output shorter than the whole output: the bytes needed
 abbrev pub orShort : {B : Type 0} → (ℕ → ℕ → B) → ℕ → ℕ → B → B
 orShort refuse room size a = elim (ltb room size) [ true ↦ refuse 6 size | false ↦ a ]
+
+-- what theorems speak of: none of 1 to 5 is given. The block is within the limit, the list is good, and the walk over the block comes to its end
+abbrev pub Known : List ℕ → List ℕ → Type 0
+Known block list = (length block ≤ byteLimit) × ((ownList list .number ≡ 0) × (fields block .number ≡ 0))

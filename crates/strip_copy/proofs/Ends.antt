@@ -1,7 +1,7 @@
 -- The answer by the sums of a block, and what is written.
-use Prim.Native.Nat.{ℕ, zero, suc, _≤_, _<_}
+use Prim.Native.Nat.{ℕ, _≤_, _<_}
 use native.Mathlib.Nat.{zero-add}
-use mathlib.Core.Path.{_≡_, refl, sym, ap, _∙_}
+use mathlib.Core.Path.{_≡_, sym, ap, _∙_}
 use mathlib.Core.Bool.{Bool, true, false}
 use mathlib.Core.List.{List}
 use borrow.Author.Tests.{lt-ltb, le-ltb}
@@ -14,6 +14,7 @@ use Rattle.base_readers.specs.Walks.{Walked}
 use Rattle.block_rules.specs.Fields.{Field, fields, bytesOf}
 use Rattle.block_laws.proofs.Fields.{fields-fine, walk-back}
 use Rattle.ownlist_rules.specs.Calls.{orRefusal, byFields, orShort}
+use Rattle.ownlist_laws.proofs.CallCases.{by-fields-refused}
 use Rattle.strip_rules.specs.declared.Stripped.{Stripped}
 use Rattle.strip_rules.specs.Strip.{Answer, refuse, removedOf, keptOf, done, fitted, stripFields}
 use Rattle.strip_fields.specs.Sifting.{Sifted}
@@ -52,13 +53,9 @@ module _ (s : List ℕ) (listed : List ℕ → Bool) (old : List ℕ) (r m : Str
   pub answer-2-4 : (m .number ≡ 0 → ⊥) → r ≡ record { number = m .number; place = m .place; kept = 0; removed = 0; fields = 0 }
       → Answered (stripFields s listed (length old)) old old r
   unfolding stripFields
-  answer-2-4 ne e = go (m .number) refl
-    where
-      go : (n : ℕ) → m .number ≡ n → Answered (stripFields s listed (length old)) old old r
-      go zero z = absurd (ne z)
-      go (suc n) z =
-          let f : fields s .number ≡ suc n = sym (k .number) ∙ z in
-          refused (stripFields s listed (length old)) old r (m .number) (m .place) e (rw (stripFields, byFields, orRefusal, f, z, k .place))
+  answer-2-4 ne e =
+      refused (stripFields s listed (length old)) old r (m .number) (m .place) e
+      (by-fields-refused refuse s (λ fs. fitted (keptOf listed fs) (removedOf listed fs) (length old)) (m .number) (m .place) (k .number) (k .place) ne)
 
   module _ (z : m .number ≡ 0) where
     sound : fields s .number ≡ 0

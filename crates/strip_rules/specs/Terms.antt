@@ -1,12 +1,10 @@
 -- What the theorems on stripping speak of.
-use Prim.Native.Nat.{ℕ, _≤_}
-use mathlib.Core.Path.{_≡_}
+use Prim.Native.Nat.{ℕ}
 use mathlib.Core.List.{List}
-use lib.ListN.{length}
-use Rattle.lexis_rules.specs.Limits.{byteLimit}
 use Rattle.block_rules.specs.Fields.{Field, fields}
 use Rattle.ownlist_rules.specs.OwnList.{ownList}
 use Rattle.ownlist_rules.specs.Listed.{among}
+use Rattle.ownlist_rules.specs.Calls as calls
 use Rattle.strip_rules.specs.Strip.{removedOf, keptOf}
 
 -- the fields of a block that stripping by a list keeps, and those that it removes
@@ -18,4 +16,4 @@ removedFields block list = removedOf (among (ownList list .items)) (fields block
 
 -- they are all there: the block is within the limit, the list is good, and the walk over the block comes to its end
 abbrev pub Known : List ℕ → List ℕ → Type 0
-Known block list = (length block ≤ byteLimit) × ((ownList list .number ≡ 0) × (fields block .number ≡ 0))
+Known = calls.Known
