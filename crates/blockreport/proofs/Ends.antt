@@ -26,7 +26,7 @@ use Rattle.ownlist_ready.specs.declared.Ready.the-variants.{Refused, AsItStands
 use Rattle.ownlist_ready.specs.Answers.{readyOf}
 use Rattle.ownlist_ready.proofs.CallsGoOn.{ready-refused, ready-as-it-stands, ready-to-spell, as-it-stands-spelled}
 use Rattle.blockreport_rules.specs.declared.BlockReported.{BlockReported}
-use Rattle.blockreport_rules.specs.Reports.{additions, Answer, refuse, fitted, reportFields, reports}
+use Rattle.blockreport_rules.specs.BlockReport.{additions, Answer, refuse, fitted, reportFields, blockReport}
 use Rattle.blockreport_rules.specs.Answers.{answerOf, leaves}
 use Rattle.blockreport_laws.proofs.Whose.{same-reported}
 use Rattle.text_first_pass.specs.declared.Copy.{Copy}
@@ -122,19 +122,19 @@ module _ (s list old : List ℕ) (r : BlockReported) where
   by own = reportFields s (ownOf own) (length old)
 
   -- refused before the block is walked
-  pub answer-1-5 : (n p : ℕ) → Refused n p ≡ readyOf s list → r ≡ record { number = n; place = p; written = 0 } → Answered (reports s list (length old)) old old r
-  unfolding reports
-  answer-1-5 n p q e = refused (reports s list (length old)) old r n p e (ready-refused s list refuse by n p q)
+  pub answer-1-5 : (n p : ℕ) → Refused n p ≡ readyOf s list → r ≡ record { number = n; place = p; written = 0 } → Answered (blockReport s list (length old)) old old r
+  unfolding blockReport
+  answer-1-5 n p q e = refused (blockReport s list (length old)) old r n p e (ready-refused s list refuse by n p q)
 
   pub answer-listed : (new : List ℕ) → ToSpell ≡ readyOf s list → Answered (reportFields s (ownOf (ownList list .items)) (length old)) old new r
-      → Answered (reports s list (length old)) old new r
-  unfolding reports
+      → Answered (blockReport s list (length old)) old new r
+  unfolding blockReport
   answer-listed new q = meant _ _ old new r (sym (ready-to-spell s list refuse by q))
 
   -- a list without two hyphens in a row is compared as it stands
   pub answer-plain : (new : List ℕ) → AsItStands ≡ readyOf s list → Answered (reportFields s (ownOfSpelled (linesOf list)) (length old)) old new r
-      → Answered (reports s list (length old)) old new r
-  unfolding reports
+      → Answered (blockReport s list (length old)) old new r
+  unfolding blockReport
   answer-plain new q =
       let e = as-it-stands-spelled s list q in
       meant _ _ old new r

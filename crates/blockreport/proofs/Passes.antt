@@ -12,7 +12,7 @@ use Rattle.block_rules.specs.Fields.{fields}
 use Rattle.block.specs.Steps.{nextFrom}
 use Rattle.block.proofs.Steps.{Rest, step-field, step-end, step-refused, part-name, part-body}
 use Rattle.ownlist_rules.specs.declared.Own.{Own}
-use Rattle.blockreport_rules.specs.Reports.{addition, additions}
+use Rattle.blockreport_rules.specs.BlockReport.{addition, additions}
 use Rattle.blockreport_laws.proofs.Sizes.{addition-size}
 use Rattle.blockreport_fields.specs.Addends.{fieldAddend, placeAfter, bufferAfter}
 use Rattle.blockreport.specs.Internal.{textBefore, FieldsPut}

@@ -10,7 +10,7 @@ use Rattle.base_sequences.proofs.Splices.{sets-append}
 use Rattle.base_readers.specs.Parsers.{Got}
 use Rattle.lexis_rules.specs.Limits.{byteLimit}
 use Rattle.ownlist_rules.specs.declared.Own.{Own}
-use Rattle.blockreport_rules.specs.Reports.{addition}
+use Rattle.blockreport_rules.specs.BlockReport.{addition}
 use Rattle.blockreport_fields.specs.Addends.{fieldAddend, placeAfter, bufferAfter}
 use Rattle.blockreport_fields.proofs.AddendIsAddition.{addend-is, addend-fits, addend-long}
 

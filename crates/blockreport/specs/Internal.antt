@@ -8,7 +8,7 @@ use Rattle.base_readers.specs.Parsers.{Got}
 use Rattle.block_rules.specs.Fields.{fields}
 use Rattle.ownlist_rules.specs.declared.Own.{Own}
 use Rattle.blockreport_rules.specs.declared.BlockReported.{BlockReported}
-use Rattle.blockreport_rules.specs.Reports.{additions}
+use Rattle.blockreport_rules.specs.BlockReport.{additions}
 
 -- what the fields up to the first refusal add
 abbrev pub textBefore : List ℕ → (Got (List ℕ) → Own) → List ℕ

@@ -1,6 +1,6 @@
 // The report of a header block: what each of its Authentication-Results fields says.
 //
-// `reports(block, list, out)` writes for each field named Authentication-Results, in the block's order, the line
+// `report_block(block, list, out)` writes for each field named Authentication-Results, in the block's order, the line
 //   field <tab> its number among all fields, from 1 <tab> own, other or unreadable <tab> answer number <tab> ignored results
 // and then the report of its body (see `report::report`), which is empty where its number is 7 or 9. A field is our own where its identifier equals
 // an entry of the list. It answers
@@ -26,7 +26,7 @@ ghost use Rattle.ownlist_rules.specs.OwnList.{ownList};
 ghost use Rattle.ownlist_rules.specs.Listed.{ownOf};
 ghost use Rattle.base_readers.specs.Lines.{linesOf};
 ghost use Rattle.ownlist_rules.specs.Spelled.{ownOfSpelled};
-ghost use Rattle.blockreport_rules.specs.Reports.{reportFields, reports};
+ghost use Rattle.blockreport_rules.specs.BlockReport.{reportFields, blockReport};
 ghost use Rattle.blockreport_rules.specs.Answers.{answerOf, leaves};
 ghost use Rattle.blockreport.specs.Internal.{FieldsPut};
 
@@ -88,7 +88,7 @@ fn refuse(number: u8, place: usize) -> BlockReported
 
 // Reports by our own list as it is compared. The first pass goes to a buffer of its own, and so measures: nothing is written to `out` before it is
 // known that all of it fits. What fits that too is copied from it; else a second pass writes it.
-fn reports_by(s: &[u8], own: &[u8], out: &mut [u8]) -> BlockReported
+fn report_by(s: &[u8], own: &[u8], out: &mut [u8]) -> BlockReported
     requires { ⌜ length (now s) ≤ byteLimit ⌝ }
     ensures { λ r. ⌜ r ≡ answerOf (reportFields (now (s .entry)) (ownOfSpelled (linesOf (now (own .entry)))) (length (now (out .entry)))) ⌝ }
     ensures { λ _. ⌜ now (out .exit) ≡ leaves (reportFields (now (s .entry)) (ownOfSpelled (linesOf (now (own .entry)))) (length (now (out .entry)))) (now (out .entry)) ⌝ }
@@ -106,24 +106,24 @@ fn reports_by(s: &[u8], own: &[u8], out: &mut [u8]) -> BlockReported
 }
 
 // Reports by a list that has to be spelled first.
-fn reports_spelled(s: &[u8], list: &[u8], out: &mut [u8]) -> BlockReported
+fn report_spelled(s: &[u8], list: &[u8], out: &mut [u8]) -> BlockReported
     requires { ⌜ length (now s) ≤ byteLimit ⌝ }
     ensures { λ r. ⌜ r ≡ answerOf (reportFields (now (s .entry)) (ownOf (ownList (now (list .entry)) .items)) (length (now (out .entry)))) ⌝ }
     ensures { λ _. ⌜ now (out .exit) ≡ leaves (reportFields (now (s .entry)) (ownOf (ownList (now (list .entry)) .items)) (length (now (out .entry)))) (now (out .entry)) ⌝ }
 {
     let mut own = ownlist_spelled::room::spelled();
     let n = ownlist_spelled::spell_list(list, &mut own);
-    reports_by(s, &own[..n], out)
+    report_by(s, &own[..n], out)
 }
 
 // Reports a header block into a lent buffer. A list without two hyphens in a row is compared as it stands; any other is spelled once, for all fields.
-pub fn reports(block: &[u8], list: &[u8], out: &mut [u8]) -> BlockReported
-    ensures { λ r. ⌜ r ≡ answerOf (reports (now (block .entry)) (now (list .entry)) (length (now (out .entry)))) ⌝ }
-    ensures { λ _. ⌜ now (out .exit) ≡ leaves (reports (now (block .entry)) (now (list .entry)) (length (now (out .entry)))) (now (out .entry)) ⌝ }
+pub fn report_block(block: &[u8], list: &[u8], out: &mut [u8]) -> BlockReported
+    ensures { λ r. ⌜ r ≡ answerOf (blockReport (now (block .entry)) (now (list .entry)) (length (now (out .entry)))) ⌝ }
+    ensures { λ _. ⌜ now (out .exit) ≡ leaves (blockReport (now (block .entry)) (now (list .entry)) (length (now (out .entry)))) (now (out .entry)) ⌝ }
 {
     match ownlist_ready::readiness(block, list) {
         Ready::Refused { number, place } => refuse(number, place),
-        Ready::AsItStands => reports_by(block, list, out),
-        Ready::ToSpell => reports_spelled(block, list, out),
+        Ready::AsItStands => report_by(block, list, out),
+        Ready::ToSpell => report_spelled(block, list, out),
     }
 }

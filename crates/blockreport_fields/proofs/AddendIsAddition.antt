@@ -19,7 +19,7 @@ use Rattle.report_rules.specs.ByCase.{told}
 use Rattle.report_laws.proofs.Rooms.{text-size}
 use Rattle.report_laws.proofs.Numbers.{when-one, when-told}
 use Rattle.blockreport_rules.specs.FieldLines.{fieldLine}
-use Rattle.blockreport_rules.specs.Reports.{bodyLines, addition}
+use Rattle.blockreport_rules.specs.BlockReport.{bodyLines, addition}
 use Rattle.blockreport_fields.specs.Addends.{Addend, bodyAddend, fieldAddend, bufferAfter}
 use Rattle.blockreport_fields.proofs.Room.{room-enough, room-long}
 

@@ -1,4 +1,4 @@
--- What the report of a block promises beyond its contract. Each theorem is about the definition that the contract of `blockreport::reports` cites.
+-- What the report of a block promises beyond its contract. Each theorem is about the definition that the contract of `blockreport::report_block` cites.
 use Prim.Native.Nat.{ℕ, _+_, _*_, _≤_}
 use native.Mathlib.Omega.{arith}
 use mathlib.Core.Path.{_≡_}
@@ -10,7 +10,7 @@ use Rattle.report_rules.specs.Report.{report}
 use Rattle.report_laws.proofs.Rooms.{text-size}
 use Rattle.report_laws.proofs.Numbers.{when-told}
 use Rattle.blockreport_rules.specs.FieldLines.{fieldLine}
-use Rattle.blockreport_rules.specs.Reports.{bodyLines}
+use Rattle.blockreport_rules.specs.BlockReport.{bodyLines}
 
 -- What is told of a body is what `report` answers to it where there is room: its number and its ignored results in the line, and then its report.
 pub body-lines-report : (n : ℕ) (whose : Own) (body : List ℕ) (room : ℕ) → length body ≤ byteLimit → 3 * length body + 4 ≤ room

@@ -20,7 +20,7 @@ use Rattle.report_rules.specs.ByCase.{numberOf, textOf, countOf}
 use Rattle.report_laws.proofs.Counts.{count-size}
 use Rattle.report_laws.proofs.Rooms.{text-size}
 use Rattle.blockreport_rules.specs.FieldLines.{wordOf, fieldLine}
-use Rattle.blockreport_rules.specs.Reports.{bodyLines, addition}
+use Rattle.blockreport_rules.specs.BlockReport.{bodyLines, addition}
 
 digits-size : (k n : ℕ) → length (digits k n) ≤ k + 1
 unfolding digits

@@ -10,7 +10,7 @@ use Rattle.block_rules.specs.Fields.{Field, nameOf, bodyOf, fields}
 use Rattle.ownlist_rules.specs.declared.Own.{Own}
 use Rattle.identifier_rules.specs.Identifier.{identifier}
 use Rattle.ownlist_laws.proofs.CallCases.{or-refusal-same}
-use Rattle.blockreport_rules.specs.Reports.{bodyLines, addition, additions, refuse, fitted, reportFields}
+use Rattle.blockreport_rules.specs.BlockReport.{bodyLines, addition, additions, refuse, fitted, reportFields}
 
 module _ (whose whose′ : Got (List ℕ) → Own) (same : (g : Got (List ℕ)) → whose g ≡ whose′ g) where
   same-addition : (n : ℕ) (name body : List ℕ) → addition whose n name body ≡ addition whose′ n name body

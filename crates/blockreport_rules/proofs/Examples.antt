@@ -7,7 +7,7 @@ use lib.ListN.{length}
 use Rattle.base_readers.specs.Texts.{bytes}
 use Rattle.base_readers.proofs.Cases.{case, Says}
 use Rattle.ownlist_rules.specs.Calls.{byList}
-use Rattle.blockreport_rules.specs.Reports.{Answer, reports}
+use Rattle.blockreport_rules.specs.BlockReport.{Answer, blockReport}
 use Rattle.blockreport_rules.specs.Answers.{answerOf, leaves}
 use Rattle.blockreport_rules.proofs.Unfolding.{opened}
 
@@ -21,7 +21,7 @@ refuses n p = record { number = n; place = p; written = [] }
 -- ==== what a field adds
 
 abbrev reported : List ℕ → Answer
-reported b = reports b (bytes "example.com\n") 400
+reported b = blockReport b (bytes "example.com\n") 400
 
 -- whose the identifier is: of an entry of the list, of none, or unreadable
 identifiers :
@@ -96,7 +96,7 @@ folded = refl
 
 -- any entry of the list; of an empty list none
 lists :
-    Says (λ l. reports (bytes "Authentication-Results:b;none\r\n") l 100)
+    Says (λ l. blockReport (bytes "Authentication-Results:b;none\r\n") l 100)
     (case [] (says (bytes "field\t1\tother\t0\t0\nid\tb\nnone\n"))
     ∷ case (bytes "a\nB\nc\n") (says (bytes "field\t1\town\t0\t0\nid\tb\nnone\n"))
     ∷ case (bytes "a\nb.\n") (says (bytes "field\t1\tother\t0\t0\nid\tb\nnone\n"))
@@ -108,14 +108,14 @@ lists = refl
 
 -- 5 gives the start of the first bad entry, before 2 to 4 and 6
 fives :
-    map (λ (l : List ℕ). reports (bytes "A") l 0) (bytes "\n" ∷ bytes "a\n\n" ∷ bytes "ab\nc d\n\n" ∷ bytes "a\nb" ∷ [])
+    map (λ (l : List ℕ). blockReport (bytes "A") l 0) (bytes "\n" ∷ bytes "a\n\n" ∷ bytes "ab\nc d\n\n" ∷ bytes "a\nb" ∷ [])
     ≡ refuses 5 0 ∷ refuses 5 2 ∷ refuses 5 3 ∷ refuses 5 2 ∷ []
 unfolding opened
 fives = refl
 
 -- 2 to 4 with their places, before 6; also where fields before them have a report
 blocks :
-    Says (λ b. reports b (bytes "a\n") 0)
+    Says (λ b. blockReport b (bytes "a\n") 0)
     (case (bytes "A: b\r\nA") (refuses 2 7)
     ∷ case (bytes "A: b\rA: c\r\n") (refuses 2 4)
     ∷ case (bytes "A: b\r\n\r\n") (refuses 3 6)
@@ -126,32 +126,32 @@ blocks = refl
 
 -- 6: lent output shorter than the whole output; the place is the bytes needed. Of a block with nothing to tell none are
 rooms :
-    map (reports (bytes "A: b\r\nAuthentication-Results: a;none\r\n") (bytes "a\n")) (0 ∷ 25 ∷ 26 ∷ 27 ∷ [])
+    map (blockReport (bytes "A: b\r\nAuthentication-Results: a;none\r\n") (bytes "a\n")) (0 ∷ 25 ∷ 26 ∷ 27 ∷ [])
     ≡ refuses 6 26 ∷ refuses 6 26 ∷ says (bytes "field\t2\town\t0\t0\nid\ta\nnone\n") ∷ says (bytes "field\t2\town\t0\t0\nid\ta\nnone\n") ∷ []
 unfolding opened
 rooms = refl
 
-no-room : reports (bytes "A: b\r\n") (bytes "a\n") 0 ≡ says []
+no-room : blockReport (bytes "A: b\r\n") (bytes "a\n") 0 ≡ says []
 unfolding opened
 no-room = refl
 
 -- 1 before 5 and before 2: every block of 65,537 bytes that starts with an LF, with a bad list and with a good one
-long : (rest : List ℕ) → length rest ≡ 65536 → reports (10 ∷ rest) (bytes "\n") 0 ≡ refuses 1 0
+long : (rest : List ℕ) → length rest ≡ 65536 → blockReport (10 ∷ rest) (bytes "\n") 0 ≡ refuses 1 0
 unfolding opened
-long rest e = rw (reports, byList, e)
+long rest e = rw (blockReport, byList, e)
 
-long-good-list : (rest : List ℕ) → length rest ≡ 65536 → reports (10 ∷ rest) [] 0 ≡ refuses 1 0
+long-good-list : (rest : List ℕ) → length rest ≡ 65536 → blockReport (10 ∷ rest) [] 0 ≡ refuses 1 0
 unfolding opened
-long-good-list rest e = rw (reports, byList, e)
+long-good-list rest e = rw (blockReport, byList, e)
 
 -- one of 65,536 is walked, after the list
-limit : (rest : List ℕ) → length rest ≡ 65535 → reports (10 ∷ rest) (bytes "\n") 0 ≡ refuses 5 0
+limit : (rest : List ℕ) → length rest ≡ 65535 → blockReport (10 ∷ rest) (bytes "\n") 0 ≡ refuses 5 0
 unfolding opened
-limit rest e = rw (reports, byList, e)
+limit rest e = rw (blockReport, byList, e)
 
-limit-good-list : (rest : List ℕ) → length rest ≡ 65535 → reports (10 ∷ rest) [] 0 ≡ refuses 2 0
+limit-good-list : (rest : List ℕ) → length rest ≡ 65535 → blockReport (10 ∷ rest) [] 0 ≡ refuses 2 0
 unfolding opened
-limit-good-list rest e = rw (reports, byList, e)
+limit-good-list rest e = rw (blockReport, byList, e)
 
 -- ==== what the caller sees
 
@@ -164,7 +164,7 @@ left : map (leaves (says (bytes "ab"))) (bytes "1234567" ∷ bytes "12" ∷ []) 
 left = refl
 
 buffers :
-    map (λ (old : List ℕ). leaves (reports (bytes "Authentication-Results:\r\n") [] (length old)) old)
+    map (λ (old : List ℕ). leaves (blockReport (bytes "Authentication-Results:\r\n") [] (length old)) old)
     (bytes "1234567890123456789012" ∷ bytes "12345678901234567890123" ∷ bytes "1234567890123456789012345" ∷ [])
     ≡ bytes "1234567890123456789012" ∷ bytes "field\t1\tunreadable\t7\t0\n" ∷ bytes "field\t1\tunreadable\t7\t0\n45" ∷ []
 unfolding opened

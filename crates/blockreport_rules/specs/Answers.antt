@@ -3,7 +3,7 @@ use Prim.Native.Nat.{ℕ}
 use mathlib.Core.List.{List, _++_}
 use lib.ListN.{length, drop}
 use Rattle.blockreport_rules.specs.declared.BlockReported.{BlockReported}
-use Rattle.blockreport_rules.specs.Reports.{Answer}
+use Rattle.blockreport_rules.specs.BlockReport.{Answer}
 
 -- number and place; of the bytes written, how many there are
 abbrev pub answerOf : Answer → BlockReported

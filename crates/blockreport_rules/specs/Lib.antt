@@ -1,4 +1,4 @@
 pub mod FieldLines
-pub mod Reports
+pub mod BlockReport
 pub mod Answers
 pub mod Terms

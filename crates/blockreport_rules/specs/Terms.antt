@@ -5,7 +5,7 @@ use Rattle.block_rules.specs.Fields.{fields}
 use Rattle.ownlist_rules.specs.OwnList.{ownList}
 use Rattle.ownlist_rules.specs.Listed.{ownOf}
 use Rattle.ownlist_rules.specs.Calls as calls
-use Rattle.blockreport_rules.specs.Reports.{additions}
+use Rattle.blockreport_rules.specs.BlockReport.{additions}
 
 -- what the fields of a block add, by a list
 abbrev pub blockText : List ℕ → List ℕ → List ℕ

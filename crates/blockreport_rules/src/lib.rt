@@ -1,6 +1,6 @@
 // The report of a header block: definitions and theorems. Of code there is only the type of an answer.
 
-// What `blockreport::reports` answers: number and place, and how many bytes were written.
+// What `blockreport::report_block` answers: number and place, and how many bytes were written.
 pub struct BlockReported {
     pub number: u8,
     pub place: usize,

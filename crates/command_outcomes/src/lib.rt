@@ -1,8 +1,8 @@
 // How a subcommand ends, by what its call answered: the output is written, or the refusal is told.
 //
 //   strip_outcome(a, out)       what `strip::strip` answered, and the buffer that it was lent
-//   report_outcome(a, out)      what `blockreport::reports` answered, and the buffer that it was lent
-//   explain_outcome(a, lines)   what `blockreport::reports` answered, and the buffer that it was lent; its lines are said in words
+//   report_outcome(a, out)      what `blockreport::report_block` answered, and the buffer that it was lent
+//   explain_outcome(a, lines)   what `blockreport::report_block` answered, and the buffer that it was lent; its lines are said in words
 //   judge_outcome(j)            what `arc::judge` answered, said in columns and in words
 //   write_outcome(a, out)       what `write::write` answered, and the buffer that it was lent
 //
@@ -29,7 +29,7 @@ pub fn strip_outcome(a: Stripped, out: &[u8]) -> Ending
     command_ending::outcome(a.number, refusal, out, a.kept)
 }
 
-// Writes the report, by what `blockreport::reports` answered and the buffer that it was lent, or tells the refusal.
+// Writes the report, by what `blockreport::report_block` answered and the buffer that it was lent, or tells the refusal.
 pub fn report_outcome(a: BlockReported, out: &[u8]) -> Ending
     ensures { λ r. ⌜ ReportEnds (length (now (out .entry))) a r ⌝ }
 {
@@ -40,7 +40,7 @@ pub fn report_outcome(a: BlockReported, out: &[u8]) -> Ending
     command_ending::outcome(a.number, refusal, out, a.written)
 }
 
-// Says the lines of a report in words and writes that, by what `blockreport::reports` answered and the buffer that it was lent, or tells the refusal.
+// Says the lines of a report in words and writes that, by what `blockreport::report_block` answered and the buffer that it was lent, or tells the refusal.
 pub fn explain_outcome(a: BlockReported, lines: &[u8]) -> Ending
     ensures { λ r. ⌜ ExplainEnds a (span (now (lines .entry)) 0 (a .written)) r ⌝ }
 {

@@ -7,7 +7,7 @@ use lib.ListN.{length, take, drop}
 use lib.Seq.{take-append-seam}
 use Rattle.base_sequences.specs.Spans.{span}
 use Rattle.blockreport_rules.specs.declared.BlockReported.{BlockReported}
-use Rattle.blockreport_rules.specs.Reports.{Answer}
+use Rattle.blockreport_rules.specs.BlockReport.{Answer}
 use Rattle.blockreport_rules.specs.Answers.{answerOf, leaves}
 use Rattle.arc_rules.specs.declared.Judged.{Judged}
 use Rattle.command_rules.specs.declared.Ending.{Ending}

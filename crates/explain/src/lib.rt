@@ -1,6 +1,6 @@
 // The report of a block in words, for a person.
 //
-// `put_explained(lines, out, to)` is handed the lines that `blockreport::reports` writes, any bytes, and says them in words (`explained` in
+// `put_explained(lines, out, to)` is handed the lines that `blockreport::report_block` writes, any bytes, and says them in words (`explained` in
 // explain_rules). It stores as much of that as there is room for in `out` from `to` on, changes no other byte, and returns the place after the
 // whole text, at most the largest place, which no buffer reaches. Every byte that it stores is LF or one of 32 to 126.
 use explain_rules::Line;

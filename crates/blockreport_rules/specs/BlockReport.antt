@@ -52,5 +52,5 @@ unfoldable pub reportFields : List ℕ → (Got (List ℕ) → Own) → ℕ → 
 reportFields block whose room = byFields refuse block (λ fs. fitted (additions whose 1 fs) room)
 
 -- 1, then 5, then 2 to 4, then 6, as for stripping. An identifier is our own when it equals a list entry
-unfoldable pub reports : List ℕ → List ℕ → ℕ → Answer
-reports block list room = byList refuse block list (λ own. reportFields block (ownOf own) room)
+unfoldable pub blockReport : List ℕ → List ℕ → ℕ → Answer
+blockReport block list room = byList refuse block list (λ own. reportFields block (ownOf own) room)

@@ -1,8 +1,8 @@
--- `blockreport::reports_by` meets its contract: one law for each way out.
+-- `blockreport::report_by` meets its contract: one law for each way out.
 use borrow.Author.Needs.{needs}
 use Rattle.blockreport.proofs.Ends.{answer-2-4, answer-6, answer-copied, answer-written}
-use Rattle.blockreport.proofs.reports_by.Statement.{statement}
-use Rattle.blockreport.proofs.reports_by.Tie as tie
+use Rattle.blockreport.proofs.report_by.Statement.{statement}
+use Rattle.blockreport.proofs.report_by.Tie as tie
 
 slice-aggregate-put-fields : tie.Need-slice-aggregate-put-fields
 slice-aggregate-put-fields c = search needs
@@ -58,8 +58,8 @@ returns-4 : tie.Need-returns-4
 returns-4 c =
     answer-copied (c .before .before .before .before .before .before .before .before .before .before .before .before .before .before .before .args .s .now) _ (c .before .before .before .before .before .before .before .before .before .before .before .before .before .before .before .args .out .now) (c .before .before .before .before .before .before .before .before .before .before .put-fields .result) (c .before .before .before .before .before .before .before .before .before .before .put-fields .result) _ _ (c .before .before .before .before .before .before .before .before .before .before .put-fields .ensures) (c .before .before .before .before .before .before .before .if1 .left) _ _ (c .before .before .before .before .copy-first .ensures .0) (c .before .before .before .before .copy-first .ensures .1) (c .enum-told3 .given .1)
 
-pub reports-by-spec : {M : Type 1} → statement M
-reports-by-spec =
+pub report-by-spec : {M : Type 1} → statement M
+report-by-spec =
     tie.close
     (tie.spec
     slice-aggregate-put-fields
