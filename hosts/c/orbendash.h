@@ -165,7 +165,7 @@ typedef struct {
  * fields, whichever of the two a field has. Nothing else is made equal: no other case, no
  * normalisation.
  *
- * It needs up to 88 KB of stack.
+ * It needs up to 88 KiB of stack.
  *
  * The first of these that applies is the number: 1 the block is too long; 5 a bad list; 2, 3 or
  * 4 a bad block; 6 no room; 0 done.
@@ -195,7 +195,7 @@ typedef struct {
  * read. List and comparison are those of orbendash_strip, which removes exactly the fields of
  * that name whose answer here is not ORBENDASH_ANOTHERS.
  *
- * It needs up to 88 KB of stack.
+ * It needs up to 88 KiB of stack.
  *
  * The first of these that applies is the number: 1 the body is too long; 5 a bad list; 0 done.
  */
@@ -318,7 +318,7 @@ typedef struct {
  * 1: 2 if its ARC-Seal is good, plus 1 if its ARC-Message-Signature is good. A chain that is
  * built has as many instances as the block has ARC-Seal fields.
  *
- * It needs 4 KB of stack where no field has more than 32 tags, and up to 140 KB for one with
+ * It needs 4 KiB of stack where no field has more than 32 tags, and up to 132 KiB for one with
  * thousands.
  *
  * The first of these that applies is the number: 1 the block is too long; 2, 3 or 4 a bad
