@@ -10,9 +10,10 @@ use Rattle.base_sequences.proofs.Splices.{sets-append}
 use Rattle.base_readers.specs.Parsers.{Got}
 use Rattle.lexis_rules.specs.Limits.{byteLimit}
 use Rattle.ownlist_rules.specs.declared.Own.{Own}
+use Rattle.blockreport_rules.specs.declared.Detail.{Detail}
 use Rattle.blockreport_rules.specs.BlockReport.{addition}
 use Rattle.blockreport_fields.specs.Addends.{fieldAddend, placeAfter, bufferAfter}
-use Rattle.blockreport_fields.proofs.AddendIsAddition.{addend-is, addend-fits, addend-long}
+use Rattle.blockreport_fields.proofs.AddendIsAddition.{allOf, addend-is, addend-fits, addend-long}
 
 -- `text` belongs in `old` from `to` on: where there is room for all of it the buffer then holds `new`, and else only its length is told. `next` is the
 -- place after the whole text, at most the largest one
@@ -22,12 +23,13 @@ pub record PutIfRoom (old : List ℕ) (to : ℕ) (text new : List ℕ) (next : �
   pub bytes : to + length text ≤ length old → new ≡ sets old to text
 
 -- what a field adds is written
-pub addend-put : (whose : Got (List ℕ) → Own) (n : ℕ) (name s old : List ℕ) (to : ℕ) (new : List ℕ) (next : ℕ) → length s ≤ byteLimit
-    → (next ≡ placeAfter (fieldAddend whose n name s) to) × (new ≡ bufferAfter (fieldAddend whose n name s) old to) → PutIfRoom old to (addition whose n name s) new next
-addend-put whose n name s old to new next l w =
-    let a = fieldAddend whose n name s in
-    let e : a .line ++ a .text ≡ addition whose n name s = addend-is whose n name s l in
-    let k : length (addition whose n name s) ≡ length (a .line) + length (a .text) = ap length (sym e) ∙ length-append (a .line) (a .text) in
+pub addend-put : (detail : Detail) (whose : Got (List ℕ) → Own) (n : ℕ) (name s old : List ℕ) (to : ℕ) (new : List ℕ) (next : ℕ) → length s ≤ byteLimit
+    → (next ≡ placeAfter (fieldAddend detail whose n name s) to) × (new ≡ bufferAfter (fieldAddend detail whose n name s) old to) → PutIfRoom old to (addition detail whose n name s) new next
+addend-put detail whose n name s old to new next l w =
+    let a = fieldAddend detail whose n name s in
+    let e : allOf a ≡ addition detail whose n name s = addend-is detail whose n name s l in
+    let k : length (addition detail whose n name s) ≡ length (a .line) + (length (a .text) + length (a .id)) =
+    ap length (sym e) ∙ (length-append (a .line) (a .text ++ a .id) ∙ omega (arith, length-append (a .text) (a .id))) in
     record {
       place = omega (arith, w .0, k);
       long = ap length (w .1) ∙ addend-long a old to;

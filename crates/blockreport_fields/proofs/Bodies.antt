@@ -1,7 +1,7 @@
 -- The report of a body, written in place or copied, behind the line of its field: one law for each way out of the code.
 use Prim.Native.Nat.{ℕ, _+_, _-_, _≤_, _<_, _^_, min}
 use native.Mathlib.Omega.{arith}
-use mathlib.Core.Path.{_≡_, refl, sym, ap, _∙_}
+use mathlib.Core.Path.{_≡_, refl, sym, ap, _∙_, subst}
 use mathlib.Core.Bool.{Bool, true, false}
 use mathlib.Core.List.{List, [], _++_, append-assoc, append-nil}
 use borrow.Author.Tests.{ltb-true, ltb-false, leb-true, leb-false, eqb-true, eqb-false}
@@ -9,6 +9,7 @@ use lib.Dec.{ltb, leb, eqb}
 use lib.ListN.{length, take, drop, length-append, length-drop, drop-of-length-le, take-append-drop}
 use lib.Seq.{sets, sets-eq, take-all, drop-drop, take-append-seam}
 use Rattle.base_sequences.specs.Stored.{cap, Clipped}
+use Rattle.base_sequences.proofs.Booleans.{no-true}
 use Rattle.base_sequences.proofs.Clips.{clipped-long}
 use Rattle.base_sequences.proofs.Splices.{sets-out}
 use Rattle.base_readers.specs.Texts.{bytes}
@@ -17,14 +18,19 @@ use Rattle.lexis_rules.specs.Bytes.{alike}
 use Rattle.lexis_rules.specs.Limits.{byteLimit}
 use Rattle.ownlist_rules.specs.declared.Own.{Own}
 use Rattle.identifier_rules.specs.Identifier.{identifier}
+use Rattle.report_rules.specs.Body.{reading}
 use Rattle.report_rules.specs.Report.{Answer, report}
 use Rattle.report_rules.specs.Answers as body
-use Rattle.report_rules.specs.declared.Reported.{Reported}
+use Rattle.report_rules.specs.declared.Reported as code
 use Rattle.report_laws.proofs.Rooms.{text-size}
 use Rattle.report_laws.proofs.Numbers.{long, bad, short, whole, way, one-when, when-one, six-when, when-six, told-when, when-told}
-use Rattle.blockreport_rules.specs.FieldLines.{fieldLine}
+use Rattle.blockreport_rules.specs.declared.Detail.{Detail}
+use Rattle.blockreport_rules.specs.declared.Detail.the-variants.{Reported, Identified}
+use Rattle.blockreport_rules.specs.FieldLines.{fieldLine, identifierLine}
+use Rattle.blockreport_rules.specs.BlockReport.{detailLine}
+use Rattle.blockreport_laws.proofs.WithIdentifiers.{nine-malformed, detail-not-nine}
 use Rattle.blockreport_fields.specs.Addends.{Addend, bodyAddend, fieldAddend, placeAfter, ifRoom, bufferAfter}
-use Rattle.blockreport_fields.proofs.Room.{room-enough, room-short, room-out, room-none, room-past}
+use Rattle.blockreport_fields.proofs.Room.{room-enough, room-short, room-out, room-long, room-none, room-past, sets-past}
 
 -- ==== the report alone
 
@@ -111,38 +117,48 @@ abbrev pub AddendPut : Addend → List ℕ → ℕ → List ℕ → ℕ → Type
 AddendPut a old to new next = (next ≡ placeAfter a to) × (new ≡ bufferAfter a old to)
 
 -- what is told of a body is what is told of it in the largest room
-module _ (s : List ℕ) (m : Reported) (n : ℕ) (o : Own) (old : List ℕ) (to : ℕ) (mid : List ℕ) (at : ℕ) (new : List ℕ) (next : ℕ) where
+module _ (s : List ℕ) (m : code.Reported) (detail : Detail) (n : ℕ) (o : Own) (old : List ℕ) (to : ℕ) (mid : List ℕ) (at : ℕ) (low : List ℕ) (end : ℕ) (new : List ℕ) (next : ℕ) where
   lines-put : m ≡ body.answerOf (report s cap) → length old < 2 ^ 64 → Clipped old to (fieldLine n o (m .number) (m .ignored)) mid at
-      → (next ≡ min (at + length (report s cap .written)) cap) × (new ≡ ifRoom mid at (report s cap .written)) → AddendPut (bodyAddend n o s) old to new next
+      → (end ≡ min (at + length (report s cap .written)) cap) × (low ≡ ifRoom mid at (report s cap .written))
+      → Clipped low end (detailLine detail (m .number) (identifier s)) new next → AddendPut (bodyAddend detail n o s) old to new next
   unfolding bodyAddend bufferAfter
-  lines-put e h v w =
+  lines-put e h v w u =
       let line = fieldLine n o (report s cap .number) (report s cap .ignored) in
       let text = report s cap .written in
       let v′ : Clipped old to line mid at = rw e at v in
       let p : ifRoom mid at text ≡ ifRoom mid (to + length line) text = room-past mid (to + length line) at text (omega (arith, clipped-long v′)) (v′ .place) in
-      (omega (arith, v′ .place, w .0), w .1 ∙ (p ∙ ap (λ (l : List ℕ). ifRoom l (to + length line) text) (v′ .bytes)))
+      let id = detailLine detail (report s cap .number) (identifier s) in
+      let u′ : Clipped low end id new next = rw e at u in
+      let k : end ≡ min (to + (length line + length text)) cap = omega (arith, v′ .place, w .0) in
+      let long : length low ≤ cap = omega (arith, ap length (w .1), room-long mid at text, clipped-long v′, h) in
+      let q : low ≡ ifRoom (sets old to line) (to + length line) text = w .1 ∙ (p ∙ ap (λ (l : List ℕ). ifRoom l (to + length line) text) (v′ .bytes)) in (
+        omega (arith, k, u′ .place),
+        u′ .bytes ∙ (sets-past low (to + (length line + length text)) end id long k ∙ ap (λ (l : List ℕ). sets l (to + (length line + length text)) id) q),
+      )
 
--- measured, and written in place
-module _ (s : List ℕ) (m : Reported) (e : m ≡ body.answerOf (report s cap)) where
+-- measured, and written in place: without what a detail adds
+module _ (s : List ℕ) (m : code.Reported) (e : m ≡ body.answerOf (report s cap)) where
   pub long-size : m .written ≡ length (report s cap .written)
-  long-size = ap (λ (x : Reported). x .written) e
+  long-size = ap (λ (x : code.Reported). x .written) e
 
   pub long-put : (n : ℕ) (o : Own) (old : List ℕ) (to : ℕ) (mid : List ℕ) (at : ℕ) (new : List ℕ) (next : ℕ) → length old < 2 ^ 64
       → Clipped old to (fieldLine n o (m .number) (m .ignored)) mid at
-      → (next ≡ min (at + length (report s cap .written)) cap) × (new ≡ ifRoom mid at (report s cap .written)) → AddendPut (bodyAddend n o s) old to new next
-  long-put n o old to mid at new next h v w = lines-put s m n o old to mid at new next e h v w
+      → (next ≡ min (at + length (report s cap .written)) cap) × (new ≡ ifRoom mid at (report s cap .written)) → AddendPut (bodyAddend Reported n o s) old to new next
+  unfolding detailLine
+  long-put n o old to mid at new next h v w =
+      lines-put s m Reported n o old to mid at new next new next e h v w (record { place = omega (arith, w .0); bytes = refl })
 
 -- made in a buffer of its own, and copied
-module _ (s first text : List ℕ) (m : Reported)
+module _ (s first text : List ℕ) (m : code.Reported)
     (e : (m ≡ body.answerOf (report s (length first))) × (text ≡ body.leaves (report s (length first)) first)) (ne : m .number ≡ 6 → ⊥) where
   told-is : report s (length first) ≡ report s cap
-  told-is = same-said s (length first) (λ z. ne (ap (λ (x : Reported). x .number) (e .0) ∙ z))
+  told-is = same-said s (length first) (λ z. ne (ap (λ (x : code.Reported). x .number) (e .0) ∙ z))
 
   short-is : m ≡ body.answerOf (report s cap)
   short-is = e .0 ∙ ap body.answerOf told-is
 
   size-is : m .written ≡ length (report s cap .written)
-  size-is = ap (λ (x : Reported). x .written) short-is
+  size-is = ap (λ (x : code.Reported). x .written) short-is
 
   text-long : length text ≡ length first
   text-long =
@@ -151,24 +167,58 @@ module _ (s first text : List ℕ) (m : Reported)
       ∙ omega (arith, length-drop (length (report s (length first) .written)) first, within s (length first)))
 
   pub short-fits : m .written ≤ length text
-  short-fits = omega (arith, ap (λ (x : Reported). x .written) (e .0), within s (length first), text-long)
+  short-fits = omega (arith, ap (λ (x : code.Reported). x .written) (e .0), within s (length first), text-long)
 
   text-is : take (m .written) text ≡ report s cap .written
   text-is = rw (e .1, told-is, size-is) (take-append-seam (report s cap .written) (drop (length (report s cap .written)) first))
 
-  pub short-put : (n : ℕ) (o : Own) (old : List ℕ) (to : ℕ) (mid : List ℕ) (at : ℕ) (new : List ℕ) (next : ℕ) → length old < 2 ^ 64
-      → Clipped old to (fieldLine n o (m .number) (m .ignored)) mid at
-      → (next ≡ min (at + length (take (m .written) text)) cap) × (new ≡ ifRoom mid at (take (m .written) text)) → AddendPut (bodyAddend n o s) old to new next
-  short-put n o old to mid at new next h v w = lines-put s m n o old to mid at new next short-is h v (rw text-is at w)
+  pub short-put : (detail : Detail) (n : ℕ) (o : Own) (old : List ℕ) (to : ℕ) (mid : List ℕ) (at : ℕ) (low : List ℕ) (end : ℕ) (new : List ℕ) (next : ℕ)
+      → length old < 2 ^ 64 → Clipped old to (fieldLine n o (m .number) (m .ignored)) mid at
+      → (end ≡ min (at + length (take (m .written) text)) cap) × (low ≡ ifRoom mid at (take (m .written) text))
+      → Clipped low end (detailLine detail (m .number) (identifier s)) new next → AddendPut (bodyAddend detail n o s) old to new next
+  short-put detail n o old to mid at low end new next h v w u = lines-put s m detail n o old to mid at low end new next short-is h v (rw text-is at w) u
+
+-- a report that doesn't fit that buffer is of a body that can be read: no detail adds anything
+module _ (s : List ℕ) (room : ℕ) (m : code.Reported) (e : m ≡ body.answerOf (report s room)) (six : m .number ≡ 6) where
+  readable : report s cap .number ≡ 9 → ⊥
+  readable z =
+      let k = six-when s room (sym (ap (λ (x : code.Reported). x .number) e) ∙ six) in
+      let t = when-told s cap (k .0) (omega (arith, text-size s (k .0), k .0)) in
+      let b = nine-malformed (reading s) (sym (ap (λ (a : Answer). a .number) t) ∙ z) in
+      no-true (rw b at (k .1 .0))
+
+  pub over-put : (detail : Detail) (n : ℕ) (o : Own) (old : List ℕ) (to : ℕ) (new : List ℕ) (next : ℕ)
+      → AddendPut (bodyAddend Reported n o s) old to new next → AddendPut (bodyAddend detail n o s) old to new next
+  unfolding bodyAddend
+  over-put detail n o old to new next w =
+      let a = detail-not-nine Reported (report s cap .number) (identifier s) readable in
+      let b = detail-not-nine detail (report s cap .number) (identifier s) readable in
+      let q : bodyAddend Reported n o s ≡ bodyAddend detail n o s = rw (bodyAddend, a, b) in
+      subst (λ (x : Addend). AddendPut x old to new next) q w
+
+-- ==== what the detail adds
+
+module _ (detail : Detail) (number : ℕ) (read : Got (List ℕ)) (old : List ℕ) (to : ℕ) where
+  pub detail-other : (number ≡ 9 → ⊥) → to ≤ cap → Clipped old to (detailLine detail number read) old to
+  detail-other ne h = rw (detail-not-nine detail number read ne) (record { place = omega (arith, h); bytes = refl })
+
+  pub detail-silent : detail ≡ Reported → to ≤ cap → Clipped old to (detailLine detail number read) old to
+  unfolding detailLine
+  detail-silent e h = rw e (record { place = omega (arith, h); bytes = refl })
+
+  pub detail-put : number ≡ 9 → detail ≡ Identified → (new : List ℕ) (next : ℕ) → Clipped old to (identifierLine read) new next
+      → Clipped old to (detailLine detail number read) new next
+  unfolding detailLine
+  detail-put k e new next w = rw (e, k) w
 
 -- ==== the fields that are told
 
-module _ (whose : Got (List ℕ) → Own) (n : ℕ) (name s : List ℕ) (t : Bool) (h : t ≡ alike name (bytes "Authentication-Results")) (old : List ℕ) (to : ℕ) where
-  pub this-name : t ≡ true → (o : Own) → o ≡ whose (identifier s) → (new : List ℕ) (next : ℕ) → AddendPut (bodyAddend n o s) old to new next
-      → AddendPut (fieldAddend whose n name s) old to new next
+module _ (detail : Detail) (whose : Got (List ℕ) → Own) (n : ℕ) (name s : List ℕ) (t : Bool) (h : t ≡ alike name (bytes "Authentication-Results")) (old : List ℕ) (to : ℕ) where
+  pub this-name : t ≡ true → (o : Own) → o ≡ whose (identifier s) → (new : List ℕ) (next : ℕ) → AddendPut (bodyAddend detail n o s) old to new next
+      → AddendPut (fieldAddend detail whose n name s) old to new next
   unfolding fieldAddend
   this-name e o q new next w = rw (fieldAddend, ← h, e, ← q) w
 
-  pub other-name : t ≡ false → to < 2 ^ 64 → AddendPut (fieldAddend whose n name s) old to old to
+  pub other-name : t ≡ false → to < 2 ^ 64 → AddendPut (fieldAddend detail whose n name s) old to old to
   unfolding fieldAddend bufferAfter
   other-name e l = rw (fieldAddend, ← h, e) (omega arith, sym (room-none old (to + 0)))

@@ -45,6 +45,13 @@ room-none old to = go (leb (to + 0) (length old)) refl
     go false e = room-short old to [] (leb-false _ _ e)
 
 -- no room is left at the largest place
+pub sets-past : (old : List ℕ) (i j : ℕ) (text : List ℕ) → length old ≤ cap → j ≡ min i cap → sets old j text ≡ sets old i text
+sets-past old i j text h e = go (leb i cap) refl
+  where
+    go : (b : Bool) → leb i cap ≡ b → sets old j text ≡ sets old i text
+    go true a = let q : j ≡ i = omega (arith, leb-true i cap a) in rw q
+    go false a = sets-out old j text (omega (arith, leb-false i cap a)) ∙ sym (sets-out old i text (omega (arith, leb-false i cap a)))
+
 pub room-past : (old : List ℕ) (i j : ℕ) (text : List ℕ) → length old ≤ cap → j ≡ min i cap → ifRoom old j text ≡ ifRoom old i text
 room-past old i j text h e = go (leb i cap) refl
   where

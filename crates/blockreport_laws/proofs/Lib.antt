@@ -1,5 +1,6 @@
-pub mod Sizes
 pub mod Whose
 pub mod Numbers
 pub mod LinesAreReports
+pub mod WithIdentifiers
+pub mod Sizes
 pub mod Limits

@@ -14,7 +14,8 @@ pub const BLOCK: usize = lexis_space::BYTES + 1;
 // these can't change which entry is the first bad one.
 pub const LIST: usize = (Entries::ENTRIES + 1) * (Entries::LONGEST + 1);
 
-// A room that the reports of all fields of a block fit, and one byte more: for each field its line of less than 60 bytes, and four.
+// A room that the reports of all fields of a block fit, and one byte more: for each field its line of less than 60 bytes, and four. So do the lines of the
+// identifiers of fields that answer 9, which have no report (`detailed-size` in blockreport_laws/proofs/Sizes.antt).
 pub const REPORTS: usize = 3 * lexis_space::BYTES + 64 * Walk::FIELDS + 1;
 
 // The most bytes of report lines that are read, and one more to tell that there are more. A body that may be written has lines of at most

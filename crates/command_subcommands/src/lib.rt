@@ -5,11 +5,13 @@
 //   explain_block(block, list)   writes in words what each Authentication-Results field of a block says
 //   judge_block(block, digits)   writes what the ARC chain of a block says by the verdicts that these digits say
 //   write_body(lines)            writes the body that has these lines as its report
+use blockreport_rules::Detail;
 use command_rules::Ending;
 ghost use mathlib.Core.Path.{_≡_};
 ghost use mathlib.Core.List.{map};
 ghost use Rattle.strip_rules.specs.Strip as stripping;
 ghost use Rattle.strip_rules.specs.Answers as stripped;
+ghost use Rattle.blockreport_rules.specs.declared.Detail.the-variants.{Reported, Identified};
 ghost use Rattle.blockreport_rules.specs.BlockReport as reporting;
 ghost use Rattle.blockreport_rules.specs.Answers as reported;
 ghost use Rattle.write_rules.specs.Compose as composing;
@@ -30,19 +32,20 @@ pub fn strip_block(block: &[u8], list: &[u8]) -> Ending
 
 // Writes what each Authentication-Results field of a block says, and by our own list whether it speaks in our name.
 pub fn report_block(block: &[u8], list: &[u8]) -> Ending
-    ensures { λ r. ⌜ ReportEnds 229377 (reported.answerOf (reporting.blockReport (now (block .entry)) (now (list .entry)) 229377)) r ⌝ }
+    ensures { λ r. ⌜ ReportEnds 229377 (reported.answerOf (reporting.blockReport Reported (now (block .entry)) (now (list .entry)) 229377)) r ⌝ }
 {
     let mut out = command_buffers::reports();
-    let a = blockreport::report_block(block, list, &mut out);
+    let a = blockreport::report_block(Detail::Reported, block, list, &mut out);
     command_outcomes::report_outcome(a, &out)
 }
 
-// Writes in words what each Authentication-Results field of a block says, and by our own list whether it speaks in our name.
+// Writes in words what each Authentication-Results field of a block says, and by our own list whether it speaks in our name. A field that is not well-formed
+// is told with its identifier.
 pub fn explain_block(block: &[u8], list: &[u8]) -> Ending
-    ensures { λ r. ⌜ ExplainEnds (reported.answerOf (reporting.blockReport (now (block .entry)) (now (list .entry)) 229377)) (reporting.blockReport (now (block .entry)) (now (list .entry)) 229377 .written) r ⌝ }
+    ensures { λ r. ⌜ ExplainEnds (reported.answerOf (reporting.blockReport Identified (now (block .entry)) (now (list .entry)) 229377)) (reporting.blockReport Identified (now (block .entry)) (now (list .entry)) 229377 .written) r ⌝ }
 {
     let mut lines = command_buffers::reports();
-    let a = blockreport::report_block(block, list, &mut lines);
+    let a = blockreport::report_block(Detail::Identified, block, list, &mut lines);
     command_outcomes::explain_outcome(a, &lines)
 }
 

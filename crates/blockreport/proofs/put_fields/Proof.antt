@@ -14,10 +14,10 @@ use Rattle.blockreport.proofs.put_fields.Statement.{statement}
 use Rattle.blockreport.proofs.put_fields.Tie as tie
 
 abbrev Inv-loop : tie.InvT-loop
-Inv-loop s own out₀ at₀ count₀ to₀ out at count to = Telling s (ownOfSpelled (linesOf own)) out₀ out at count to
+Inv-loop detail s own out₀ at₀ count₀ to₀ out at count to = Telling detail s (ownOfSpelled (linesOf own)) out₀ out at count to
 
 abbrev μ-loop : tie.MeasureT-loop
-μ-loop s own out₀ at₀ count₀ to₀ out at count to = length s - at
+μ-loop detail s own out₀ at₀ count₀ to₀ out at count to = length s - at
 
 -- the field that a turn takes
 step : (c : tie.After-known-told Inv-loop μ-loop)
@@ -33,7 +33,7 @@ fresh-requires : tie.Need-fresh-requires Inv-loop μ-loop
 fresh-requires c κs = search needs
 
 loop-holds : tie.Need-loop-holds Inv-loop μ-loop
-loop-holds c = rw (c .fresh .ensures) (telling-start _ _ _)
+loop-holds c = rw (c .fresh .ensures) (telling-start _ _ _ _)
 
 next-field-requires : tie.Need-next-field-requires Inv-loop μ-loop
 next-field-requires c κs = search needs
@@ -72,7 +72,7 @@ loop-less : tie.Need-loop-less Inv-loop μ-loop
 loop-less c = omega (arith, near (c .before .before .before .before .before .before), c .before .before .before .before .before .before .before .before .before .before .loop .inv)
 
 loop-again : tie.Need-loop-again Inv-loop μ-loop
-loop-again c = telling-field _ _ _ _ _ _ _ (c .before .before .before .before .before .before .before .before .before .before .loop .inv) _ _ _ _ (step (c .before .before .before .before .before .before)) (c .before .before .before .before .before .before .before .before .before .before .before .before .before .before .before .pre) _ _ _ (c .before .before .put-field .ensures) refl
+loop-again c = telling-field _ _ _ _ _ _ _ _ (c .before .before .before .before .before .before .before .before .before .before .loop .inv) _ _ _ _ (step (c .before .before .before .before .before .before)) (c .before .before .before .before .before .before .before .before .before .before .before .before .before .before .before .pre) _ _ _ (c .before .before .put-field .ensures) refl
 
 enum-told : tie.Need-enum-told Inv-loop μ-loop
 enum-told c = search needs
@@ -81,7 +81,7 @@ same-length : tie.Need-same-length Inv-loop μ-loop
 same-length c = c .before .before .before .loop .inv .left .long
 
 returns : tie.Need-returns Inv-loop μ-loop
-returns c = telling-end _ _ _ _ _ _ _ (c .before .before .before .loop .inv) (sym (c .enum-told .given .1) ∙ c .before .before .next-field .ensures)
+returns c = telling-end _ _ _ _ _ _ _ _ (c .before .before .before .loop .inv) (sym (c .enum-told .given .1) ∙ c .before .before .next-field .ensures)
 
 enum-known-number : tie.Need-enum-known-number Inv-loop μ-loop
 enum-known-number c = search needs
@@ -90,7 +90,7 @@ same-length-2 : tie.Need-same-length-2 Inv-loop μ-loop
 same-length-2 c = c .before .before .before .before .loop .inv .left .long
 
 returns-2 : tie.Need-returns-2 Inv-loop μ-loop
-returns-2 c = telling-refused _ _ _ _ _ _ _ (c .before .before .before .before .loop .inv) _ _ (sym (c .before .number .given .1) ∙ c .before .before .before .next-field .ensures)
+returns-2 c = telling-refused _ _ _ _ _ _ _ _ (c .before .before .before .before .loop .inv) _ _ (sym (c .before .number .given .1) ∙ c .before .before .before .next-field .ensures)
 
 pub put-fields-spec : {M : Type 1} → statement M
 put-fields-spec =

@@ -28,19 +28,19 @@ report-spelled-requires : tie.Need-report-spelled-requires
 report-spelled-requires c κs = to-spell-goes-on (c .before .before .before .before .before .before .before .args .block .now) (c .before .before .before .before .before .before .before .args .list .now) (sym (c .before .enum-told2 .given .1) ∙ c .before .before .before .readiness .ensures) .0
 
 returns : tie.Need-returns
-returns c = answer-1-5 (c .before .before .before .before .before .before .before .before .args .block .now) (c .before .before .before .before .before .before .before .before .args .list .now) (c .before .before .before .before .before .before .before .before .args .out .now) _ _ _ (sym (c .before .before .number .given .1) ∙ c .before .before .before .before .readiness .ensures) (c .refuse .ensures)
+returns c = answer-1-5 _ (c .before .before .before .before .before .before .before .before .args .block .now) (c .before .before .before .before .before .before .before .before .args .list .now) (c .before .before .before .before .before .before .before .before .args .out .now) _ _ _ (sym (c .before .before .number .given .1) ∙ c .before .before .before .before .readiness .ensures) (c .refuse .ensures)
 
 same-length : tie.Need-same-length
 same-length c = search needs
 
 returns-2 : tie.Need-returns-2
-returns-2 c = answer-plain (c .before .before .before .before .before .before .before .before .before .before .args .block .now) (c .before .before .before .before .before .before .before .before .before .before .args .list .now) (c .before .before .before .before .before .before .before .before .before .before .args .out .now) _ _ (sym (c .before .before .before .before .enum-told .given .1) ∙ c .before .before .before .before .before .before .readiness .ensures) (c .before .before .report-by .ensures)
+returns-2 c = answer-plain _ (c .before .before .before .before .before .before .before .before .before .before .args .block .now) (c .before .before .before .before .before .before .before .before .before .before .args .list .now) (c .before .before .before .before .before .before .before .before .before .before .args .out .now) _ _ (sym (c .before .before .before .before .enum-told .given .1) ∙ c .before .before .before .before .before .before .readiness .ensures) (c .before .before .report-by .ensures)
 
 same-length-2 : tie.Need-same-length-2
 same-length-2 c = search needs
 
 returns-3 : tie.Need-returns-3
-returns-3 c = answer-listed (c .before .before .before .before .before .before .before .before .before .before .args .block .now) (c .before .before .before .before .before .before .before .before .before .before .args .list .now) (c .before .before .before .before .before .before .before .before .before .before .args .out .now) _ _ (sym (c .before .before .before .before .enum-told2 .given .1) ∙ c .before .before .before .before .before .before .readiness .ensures) (c .before .before .report-spelled .ensures)
+returns-3 c = answer-listed _ (c .before .before .before .before .before .before .before .before .before .before .args .block .now) (c .before .before .before .before .before .before .before .before .before .before .args .list .now) (c .before .before .before .before .before .before .before .before .before .before .args .out .now) _ _ (sym (c .before .before .before .before .enum-told2 .given .1) ∙ c .before .before .before .before .before .before .readiness .ensures) (c .before .before .report-spelled .ensures)
 
 pub report-block-spec : {M : Type 1} → statement M
 report-block-spec =

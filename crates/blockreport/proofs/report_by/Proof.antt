@@ -14,7 +14,7 @@ refuse-requires : tie.Need-refuse-requires
 refuse-requires c κs = search needs
 
 returns : tie.Need-returns
-returns c = answer-2-4 (c .before .before .before .before .before .before .before .before .before .args .s .now) _ (c .before .before .before .before .before .before .before .before .before .args .out .now) _ (c .before .before .before .before .put-fields .result) _ _ (c .before .before .before .before .put-fields .ensures) (c .before .if1 .taken) (c .refuse .ensures)
+returns c = answer-2-4 _ (c .before .before .before .before .before .before .before .before .before .args .s .now) _ (c .before .before .before .before .before .before .before .before .before .args .out .now) _ (c .before .before .before .before .put-fields .result) _ _ (c .before .before .before .before .put-fields .ensures) (c .before .if1 .taken) (c .refuse .ensures)
 
 slice-aggregate-copy-first : tie.Need-slice-aggregate-copy-first
 slice-aggregate-copy-first c = search needs
@@ -42,21 +42,21 @@ same-length c = search needs
 
 returns-2 : tie.Need-returns-2
 returns-2 c =
-    answer-6 (c .before .before .before .before .before .before .before .before .before .before .before .before .before .before .before .before .args .s .now) _ (c .before .before .before .before .before .before .before .before .before .before .before .before .before .before .before .before .args .out .now) _ (c .before .before .before .before .before .before .before .before .before .before .before .put-fields .result) _ _ (c .before .before .before .before .before .before .before .before .before .before .before .put-fields .ensures) (c .before .before .before .before .before .before .before .before .if1 .left) _ _ (c .before .before .before .before .before .copy-first .ensures .0) (c .before .before .before .before .before .copy-first .ensures .1) (c .before .enum-told .given .1) (c .refuse2 .ensures)
+    answer-6 _ (c .before .before .before .before .before .before .before .before .before .before .before .before .before .before .before .before .args .s .now) _ (c .before .before .before .before .before .before .before .before .before .before .before .before .before .before .before .before .args .out .now) _ (c .before .before .before .before .before .before .before .before .before .before .before .put-fields .result) _ _ (c .before .before .before .before .before .before .before .before .before .before .before .put-fields .ensures) (c .before .before .before .before .before .before .before .before .if1 .left) _ _ (c .before .before .before .before .before .copy-first .ensures .0) (c .before .before .before .before .before .copy-first .ensures .1) (c .before .enum-told .given .1) (c .refuse2 .ensures)
 
 same-length-2 : tie.Need-same-length-2
 same-length-2 c = search needs
 
 returns-3 : tie.Need-returns-3
 returns-3 c =
-    answer-written (c .before .before .before .before .before .before .before .before .before .before .before .before .before .before .before .before .before .before .before .args .s .now) _ (c .before .before .before .before .before .before .before .before .before .before .before .before .before .before .before .before .before .before .before .args .out .now) _ (c .before .before .before .before .before .before .before .before .before .before .before .before .before .before .put-fields .result) _ _ (c .before .before .before .before .before .before .before .before .before .before .before .before .before .before .put-fields .ensures) (c .before .before .before .before .before .before .before .before .before .before .before .if1 .left) _ _ (c .before .before .before .before .before .before .before .before .copy-first .ensures .0) (c .before .before .before .before .before .before .before .before .copy-first .ensures .1) (c .before .before .before .before .enum-told2 .given .1) _ (c .before .before .put-fields2 .ensures)
+    answer-written _ (c .before .before .before .before .before .before .before .before .before .before .before .before .before .before .before .before .before .before .before .args .s .now) _ (c .before .before .before .before .before .before .before .before .before .before .before .before .before .before .before .before .before .before .before .args .out .now) _ (c .before .before .before .before .before .before .before .before .before .before .before .before .before .before .put-fields .result) _ _ (c .before .before .before .before .before .before .before .before .before .before .before .before .before .before .put-fields .ensures) (c .before .before .before .before .before .before .before .before .before .before .before .if1 .left) _ _ (c .before .before .before .before .before .before .before .before .copy-first .ensures .0) (c .before .before .before .before .before .before .before .before .copy-first .ensures .1) (c .before .before .before .before .enum-told2 .given .1) _ (c .before .before .put-fields2 .ensures)
 
 same-length-3 : tie.Need-same-length-3
 same-length-3 c = search needs
 
 returns-4 : tie.Need-returns-4
 returns-4 c =
-    answer-copied (c .before .before .before .before .before .before .before .before .before .before .before .before .before .before .before .args .s .now) _ (c .before .before .before .before .before .before .before .before .before .before .before .before .before .before .before .args .out .now) (c .before .before .before .before .before .before .before .before .before .before .put-fields .result) (c .before .before .before .before .before .before .before .before .before .before .put-fields .result) _ _ (c .before .before .before .before .before .before .before .before .before .before .put-fields .ensures) (c .before .before .before .before .before .before .before .if1 .left) _ _ (c .before .before .before .before .copy-first .ensures .0) (c .before .before .before .before .copy-first .ensures .1) (c .enum-told3 .given .1)
+    answer-copied _ (c .before .before .before .before .before .before .before .before .before .before .before .before .before .before .before .args .s .now) _ (c .before .before .before .before .before .before .before .before .before .before .before .before .before .before .before .args .out .now) (c .before .before .before .before .before .before .before .before .before .before .put-fields .result) (c .before .before .before .before .before .before .before .before .before .before .put-fields .result) _ _ (c .before .before .before .before .before .before .before .before .before .before .put-fields .ensures) (c .before .before .before .before .before .before .before .if1 .left) _ _ (c .before .before .before .before .copy-first .ensures .0) (c .before .before .before .before .copy-first .ensures .1) (c .enum-told3 .given .1)
 
 pub report-by-spec : {M : Type 1} → statement M
 report-by-spec =

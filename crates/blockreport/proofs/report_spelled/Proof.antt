@@ -32,7 +32,7 @@ same-length c = search needs
 
 returns : tie.Need-returns
 returns c =
-    answer-spelled (c .before .before .before .before .before .before .before .before .before .before .before .before .args .list .now) _ _ _ (c .before .before .before .before .before .before .spell-list .ensures) (c .before .before .before .before .before .before .before .before .spelled .ensures .1) (c .before .before .before .before .before .before .before .before .before .before .before .before .args .s .now) (c .before .before .before .before .before .before .before .before .before .before .before .before .args .out .now) _ _ (c .before .before .report-by .ensures)
+    answer-spelled (c .before .before .before .before .before .before .before .before .before .before .before .before .args .list .now) _ _ _ (c .before .before .before .before .before .before .spell-list .ensures) (c .before .before .before .before .before .before .before .before .spelled .ensures .1) _ (c .before .before .before .before .before .before .before .before .before .before .before .before .args .s .now) (c .before .before .before .before .before .before .before .before .before .before .before .before .args .out .now) _ _ (c .before .before .report-by .ensures)
 
 pub report-spelled-spec : {M : Type 1} → statement M
 report-spelled-spec =

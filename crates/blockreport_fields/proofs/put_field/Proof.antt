@@ -22,11 +22,11 @@ same-length c = search needs
 
 returns : tie.Need-returns
 returns c =
-    this-name _ _ _ _ _ (c .before .before .before .before .before .before .same-text .ensures) _ _ (c .before .before .before .before .before .if1 .taken) _ (c .before .before .before .before .whose-spelled .ensures) _ _ (c .before .before .put-body .ensures)
+    this-name _ _ _ _ _ _ (c .before .before .before .before .before .before .same-text .ensures) _ _ (c .before .before .before .before .before .if1 .taken) _ (c .before .before .before .before .whose-spelled .ensures) _ _ (c .before .before .put-body .ensures)
 
 returns-2 : tie.Need-returns-2
 returns-2 c =
-    other-name _ _ _ _ _ (c .before .same-text .ensures) _ _ (c .if1 .left) (omega arith)
+    other-name _ _ _ _ _ _ (c .before .same-text .ensures) _ _ (c .if1 .left) (omega arith)
 
 pub put-field-spec : {M : Type 1} → statement M
 put-field-spec =

@@ -1,5 +1,6 @@
 -- `command_subcommands::explain_block` meets its contract: the lines that were reported are those that are said in words.
 use Prim.Native.Nat.{ℕ}
+use Rattle.blockreport_rules.specs.declared.Detail.the-variants.{Identified}
 use Rattle.blockreport_rules.specs.BlockReport.{blockReport}
 use Rattle.command_subcommands.proofs.Rooms.{explain-so}
 use borrow.Author.Needs.{needs}
@@ -24,7 +25,7 @@ explain-outcome-requires c κs = search needs
 returns : tie.Need-returns
 returns c =
     let body = c .before .before .before .before .before .before .before .before .args in
-    explain-so (λ (k : ℕ). blockReport (body .block .now) (body .list .now) k) _ _ _ _ (c .before .before .before .report-block .ensures .0) (c .before .before .before .report-block .ensures .1) _ (slice-aggregate-report-block (c .before .before .before .before)) (c .explain-outcome .ensures)
+    explain-so (λ (k : ℕ). blockReport Identified (body .block .now) (body .list .now) k) _ _ _ _ (c .before .before .before .report-block .ensures .0) (c .before .before .before .report-block .ensures .1) _ (slice-aggregate-report-block (c .before .before .before .before)) (c .explain-outcome .ensures)
 
 pub explain-block-spec : {M : Type 1} → statement M
 explain-block-spec =

@@ -1,5 +1,6 @@
 -- The outcome of what the call answered.
 use Prim.Native.Nat.{ℕ}
+use Rattle.blockreport_rules.specs.declared.Detail.the-variants.{Reported}
 use Rattle.blockreport_rules.specs.BlockReport.{blockReport}
 use Rattle.blockreport_rules.specs.Answers.{answerOf}
 use Rattle.command_outcomes.specs.Ends.{ReportEnds}
@@ -26,7 +27,7 @@ report-outcome-requires c κs = search needs
 returns : tie.Need-returns
 returns c =
     let body = c .before .before .before .before .before .before .before .before .args in
-    ends-so ReportEnds (λ (k : ℕ). answerOf (blockReport (body .block .now) (body .list .now) k)) 229377 _ _ (c .before .before .before .report-block .result) _ (slice-aggregate-report-block (c .before .before .before .before)) (slice-aggregate-report-outcome (c .before)) (c .before .before .before .report-block .ensures .0) (c .report-outcome .ensures)
+    ends-so ReportEnds (λ (k : ℕ). answerOf (blockReport Reported (body .block .now) (body .list .now) k)) 229377 _ _ (c .before .before .before .report-block .result) _ (slice-aggregate-report-block (c .before .before .before .before)) (slice-aggregate-report-outcome (c .before)) (c .before .before .before .report-block .ensures .0) (c .report-outcome .ensures)
 
 pub report-block-spec : {M : Type 1} → statement M
 report-block-spec =
