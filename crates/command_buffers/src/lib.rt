@@ -23,9 +23,11 @@ pub const REPORTS: usize = 3 * lexis_space::BYTES + 64 * Walk::FIELDS + 1;
 // whole gets a refusal of its own.
 pub const LINES: usize = 4 * lexis_space::BYTES + 1;
 
-// A room for the reports of a block in words. Each of its lines stands for nine bytes of the block at least and has at most 17 bytes of words of its own, but
-// for the line of a field, which has at most 153 (`explained-long` in explain_rules/proofs/PlainAndShort.antt).
-pub const EXPLAINED: usize = 524288;
+// A room for the reports of a block in words (`explained-long` in explain_rules/proofs/PlainAndShort.antt). The lines have at most 229,376 bytes. Each is shown with two
+// bytes at most, but for a tab and an LF, for which no more than four are counted. Every line but that of a header version stands for nine bytes of the block
+// at least, so there are at most 7,281 and 512 lines with at most five such bytes each, and 13 bytes of words of our own; a field has at most four lines in front of its
+// results, with 18 bytes more, and one of them 144 more: 42 + 2 * 229,376 + 2 * 5 * 7,793 + 13 * 7,793 + 18 * 4 * 512 + 144 * 512 = 748,625.
+pub const EXPLAINED: usize = 786432;
 
 // A room for a judgement.
 pub const JUDGEMENT: usize = 512;
@@ -64,8 +66,8 @@ pub fn lines() -> [u8; LINES]
 
 // For the reports of a block in words.
 pub fn explained() -> [u8; EXPLAINED]
-    ensures { λ r. ⌜ r ≡ replicate 524288 0 ⌝ }
-    ensures { λ r. ⌜ 524288 ≡ length r ⌝ }
+    ensures { λ r. ⌜ r ≡ replicate 786432 0 ⌝ }
+    ensures { λ r. ⌜ 786432 ≡ length r ⌝ }
 {
     [0u8; EXPLAINED]
 }

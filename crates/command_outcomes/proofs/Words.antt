@@ -39,7 +39,7 @@ judge-so j f n m old new r g q w o =
     words-so (j .number) (verdictsRefusal (j .number) (j .place)) 512 n m old (judgement j) new r q w (subst (λ (x : Ending). Outcome (j .number) x m n r) g o)
 
 -- the part of the lines that was handed on
-pub explain-so : (a : BlockReported) (lines part : List ℕ) (n m : ℕ) (old new : List ℕ) (r : Ending) → part ≡ lines → 524288 ≡ m → Clipped old 0 (explained part) new n
+pub explain-so : (a : BlockReported) (lines part : List ℕ) (n m : ℕ) (old new : List ℕ) (r : Ending) → part ≡ lines → 786432 ≡ m → Clipped old 0 (explained part) new n
     → Outcome (a .number) (Refused (a .number) (a .place)) m n r → ExplainEnds a lines r
 explain-so a lines part n m old new r p q w o =
-    subst (λ (l : List ℕ). ExplainEnds a l r) p (words-so (a .number) (Refused (a .number) (a .place)) 524288 n m old (explained part) new r q w o)
+    subst (λ (l : List ℕ). ExplainEnds a l r) p (words-so (a .number) (Refused (a .number) (a .place)) 786432 n m old (explained part) new r q w o)

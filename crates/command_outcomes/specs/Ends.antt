@@ -23,7 +23,7 @@ ReportEnds room a r = Outcome (a .number) (Refused (a .number) (a .place)) room 
 
 -- these lines, which were reported, in words
 abbrev pub ExplainEnds : BlockReported → List ℕ → Ending → Type 0
-ExplainEnds a lines r = Outcome (a .number) (Refused (a .number) (a .place)) 524288 (min (length (explained lines)) cap) r
+ExplainEnds a lines r = Outcome (a .number) (Refused (a .number) (a .place)) 786432 (min (length (explained lines)) cap) r
 
 -- bad verdicts have a line of their own
 abbrev pub verdictsRefusal : ℕ → ℕ → Ending

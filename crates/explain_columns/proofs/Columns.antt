@@ -4,20 +4,18 @@ use native.Mathlib.Numerals.{add-one}
 use native.Mathlib.Omega.{arith}
 use mathlib.Core.Path.{_≡_, refl, sym, ap, _∙_}
 use mathlib.Core.Bool.{Bool, true, false}
-use mathlib.Core.List.{List, [], _∷_, _++_, map}
+use mathlib.Core.List.{List, [], _∷_, _++_}
 use lib.ListN.{length, getD, take, drop, length-drop, drop-of-length-le}
-use lib.Seq.{drop-cons, length-take-le, take-all}
+use lib.Seq.{length-take-le, take-all}
 use borrow.Author.Tests.{eq-eqb, ne-eqb}
 use Rattle.base_sequences.specs.Stored.{Clipped}
-use Rattle.base_sequences.proofs.Clips.{clipped-then, Going, going-start, going-step, going-done}
+use Rattle.base_sequences.proofs.Clips.{clipped-then}
 use Rattle.base_readers.specs.Texts.{bytes, same}
 use Rattle.base_readers.specs.Readers.{run}
 use Rattle.base_readers.specs.Places.{Reaches}
 use Rattle.base_readers.proofs.Loops.{run-on, run-off}
 use Rattle.base_readers.proofs.Readers.{run-fits}
 use Rattle.base_readers.proofs.Texts.{same-long}
-use Rattle.lexis_rules.specs.declared.Class.the-variants.{Visible}
-use Rattle.lexis_rules.specs.Bytes.{inClass}
 use Rattle.explain_rules.specs.declared.Line.{Line}
 use Rattle.explain_rules.specs.declared.Line.the-variants.{Field, Identifier, NoResult, Other}
 use Rattle.explain_rules.specs.Explained.{inColumn, column, behind, kindOf, kindOfLine, shown, text}
@@ -95,31 +93,8 @@ module _ (w : List ℕ) (n : length w ≡ 1 → ⊥) (b₁ : Bool) (e₁ : b₁ 
 pub kind-line : (l w : List ℕ) → w ≡ column l → (k : Line) → k ≡ kindOf w → k ≡ kindOfLine l
 kind-line l w e k q = q ∙ rw e
 
--- ==== bytes as a terminal is shown them
-
-module _ (b : ℕ) (r : Bool) (e : r ≡ inClass Visible b) where
-  pub shown-visible : r ≡ true → b ≡ shown b
-  unfolding shown
-  shown-visible q = let t : inClass Visible b ≡ true = sym e ∙ q in rw t
-
-  pub shown-other : r ≡ false → 63 ≡ shown b
-  unfolding shown
-  shown-other q = let t : inClass Visible b ≡ false = sym e ∙ q in rw t
-
-pub shown-start : (old part : List ℕ) (to : ℕ) → to < 2 ^ 64 → Going old to (map shown part) old to (map shown (drop 0 part))
-shown-start old part to h = going-start old to (map shown part) (omega arith)
-
-module _ (old part out : List ℕ) (to n i : ℕ) (g : Going old to (map shown part) out n (map shown (drop i part))) where
-  pub shown-more : length old < 2 ^ 64 → i < length part → (b : ℕ) → b ≡ shown (getD part i 0) → (out′ : List ℕ) (n′ : ℕ) → Clipped out n (b ∷ []) out′ n′
-      → Going old to (map shown part) out′ n′ (map shown (drop (i + 1) part))
-  shown-more l h b e out′ n′ w =
-      going-step (omega arith) g (rw (drop-cons part i 0 h, e, add-one i)) w
-
-  pub shown-done : length part ≤ i → Clipped old to (map shown part) out n
-  shown-done h = going-done g (rw (drop-of-length-le part h))
-
 -- ==== a label and a column
 
 pub labelled-put : (old label l : List ℕ) (to : ℕ) → length old < 2 ^ 64 → (o : List ℕ) (a : ℕ) → Clipped old to label o a → (w : List ℕ) → w ≡ column l
-    → (new : List ℕ) (r : ℕ) → Clipped o a (map shown w) new r → Clipped old to (label ++ text l) new r
+    → (new : List ℕ) (r : ℕ) → Clipped o a (shown w) new r → Clipped old to (label ++ text l) new r
 labelled-put old label l to h o a p w e new r q = clipped-then (omega arith) p (rw e at q)

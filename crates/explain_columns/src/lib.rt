@@ -1,18 +1,17 @@
-// The columns of a line of the report of a block, what the line is, and texts as a terminal is shown them.
+// The columns of a line of the report of a block, and what the line is.
 //
 // `column(l)` is the first column of a line, `behind(l)` what stands behind the tab that ends it, and nothing where there is no tab;
-// `kind_of_line(l)` is what the line is, by its first column; `until(s, at, b)` is the next place of a byte. A writer is handed a buffer and a
+// `kind_of_line(l)` is what the line is, by its first column; `until(s, at, b)` is the next place of a byte. `put_labelled` is handed a buffer and a
 // place in it, any place. It stores as much of its text as there is room for from there on, changes no other byte, and returns the place after
 // the whole text, at most the largest place, which no buffer reaches.
 use explain_rules::Line;
-use lexis_rules::Class;
 ghost use mathlib.Core.Path.{_≡_};
-ghost use mathlib.Core.List.{[], _∷_, _++_, map};
+ghost use mathlib.Core.List.{[], _∷_, _++_};
 ghost use Prim.Native.Nat.{_+_};
 ghost use lib.ListN.{drop};
 ghost use Rattle.base_sequences.specs.Stored.{Clipped};
 ghost use Rattle.base_readers.specs.Readers.{run};
-ghost use Rattle.explain_rules.specs.Explained.{column, behind, kindOf, kindOfLine, shown, text};
+ghost use Rattle.explain_rules.specs.Explained.{column, behind, kindOf, kindOfLine, text};
 ghost use Rattle.explain_columns.specs.Until.{except};
 
 // The next place from this one on where a byte stands, or the end.
@@ -86,33 +85,10 @@ pub fn kind_of_line(l: &[u8]) -> Line
     kind_of(column(l))
 }
 
-// A byte as a terminal is shown it.
-fn shown(b: u8) -> u8
-    ensures { λ r. ⌜ r ≡ shown b ⌝ }
-{
-    if lexis_classes::in_class(Class::Visible, b) {
-        return b;
-    }
-    b'?'
-}
-
-// A text as a terminal is shown it.
-pub fn put_shown(part: &[u8], out: &mut [u8], to: usize) -> usize
-    ensures { λ r. ⌜ Clipped (now (out .entry)) to (map shown (now (part .entry))) (now (out .exit)) r ⌝ }
-{
-    let mut n = to;
-    let mut i: usize = 0;
-    while i < part.len() {
-        n = text_write::put_byte(shown(part[i]), out, n);
-        i += 1;
-    }
-    n
-}
-
-// A label as it is, and the first column of a line as a terminal is shown it.
+// A label as it is, and the text of the first column of a line as it is shown.
 pub fn put_labelled(label: &[u8], l: &[u8], out: &mut [u8], to: usize) -> usize
     ensures { λ r. ⌜ Clipped (now (out .entry)) to (now (label .entry) ++ text (now (l .entry))) (now (out .exit)) r ⌝ }
 {
     let a = text_write::put_part(label, out, to);
-    put_shown(column(l), out, a)
+    explain_texts::put_text(column(l), out, a)
 }

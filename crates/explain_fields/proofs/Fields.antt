@@ -4,7 +4,7 @@ use Prim.Native.Nat.{ℕ, _<_, _^_}
 use native.Mathlib.Omega.{arith}
 use mathlib.Core.Path.{_≡_, refl, sym, _∙_}
 use mathlib.Core.Bool.{Bool, true, false}
-use mathlib.Core.List.{List, [], _∷_, _++_, map, append-assoc}
+use mathlib.Core.List.{List, [], _∷_, _++_, append-assoc}
 use lib.ListN.{length, getD}
 use borrow.Author.Tests.{eq-eqb, ne-eqb}
 use Rattle.base_sequences.specs.Stored.{Clipped}
@@ -48,8 +48,8 @@ pub results-put : (w : List ℕ) (p : ℕ) → phrase p results ≡ resultsWords
     → Clipped old to (resultsWords w) new r
 results-put w p e old to new r v = rw (← e) v
 
-pub counted-put : (w old : List ℕ) (to : ℕ) → length old < 2 ^ 64 → (o : List ℕ) (a : ℕ) → Clipped old to (bytes "; ") o a → (new : List ℕ) (r : ℕ) → Clipped o a (map shown w) new r
-    → Clipped old to (bytes "; " ++ map shown w) new r
+pub counted-put : (w old : List ℕ) (to : ℕ) → length old < 2 ^ 64 → (o : List ℕ) (a : ℕ) → Clipped old to (bytes "; ") o a → (new : List ℕ) (r : ℕ) → Clipped o a (shown w) new r
+    → Clipped old to (bytes "; " ++ shown w) new r
 counted-put w old to h o a v new r u = clipped-then (omega arith) v u
 
 module _ (w old : List ℕ) (to : ℕ) (z : Bool) (e : z ≡ same w (bytes "0")) where
@@ -59,13 +59,13 @@ module _ (w old : List ℕ) (to : ℕ) (z : Bool) (e : z ≡ same w (bytes "0"))
       let t : same w (bytes "0") ≡ true = sym e ∙ q in
       rw t (record { place = omega arith; bytes = refl })
 
-  pub count-some : z ≡ false → length old < 2 ^ 64 → (o : List ℕ) (a : ℕ) → Clipped old to (bytes "; " ++ map shown w) o a → (new : List ℕ) (r : ℕ) → Clipped o a (resultsWords w) new r
+  pub count-some : z ≡ false → length old < 2 ^ 64 → (o : List ℕ) (a : ℕ) → Clipped old to (bytes "; " ++ shown w) o a → (new : List ℕ) (r : ℕ) → Clipped o a (resultsWords w) new r
       → Clipped old to (countWords w) new r
   unfolding countWords resultsWords
   count-some q h o a v new r u =
       let t : same w (bytes "0") ≡ false = sym e ∙ q in
-      let k : Clipped old to ((bytes "; " ++ map shown w) ++ resultsWords w) new r = clipped-then (omega arith) v u in
-      rw t (rw (append-assoc (bytes "; ") (map shown w) (resultsWords w)) at k)
+      let k : Clipped old to ((bytes "; " ++ shown w) ++ resultsWords w) new r = clipped-then (omega arith) v u in
+      rw t (rw (append-assoc (bytes "; ") (shown w) (resultsWords w)) at k)
 
 -- ==== what an answer means
 

@@ -21,7 +21,7 @@ abbrev pub results : List ℕ
 results = bytes " result of a newer version or not known: not shown| results of a newer version or not known: not shown"
 
 abbrev pub answers : List ℕ
-answers = bytes "; of a newer version: what it says is not read|; not well-formed: nothing of it is shown|"
+answers = bytes "; of a newer version: what it says is not read|; not well-formed: none of its results is shown|"
 
 abbrev pub whoses : List ℕ
-whoses = bytes "in our own name: strip removes it|another's word: strip keeps it|its identifier can't be read: strip removes it"
+whoses = bytes "in our own name: strip removes it; what it says is only claimed|another's word: strip keeps it|its identifier can't be read: strip removes it"

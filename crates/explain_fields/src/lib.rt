@@ -3,7 +3,7 @@
 // `put_field(l, out, to)` says the line of a field by its columns behind the first, any bytes, in words (`fieldWords` in explain_rules). It stores as much of that as there is
 // room for in `out` from `to` on, changes no other byte, and returns the place after the whole text, at most the largest place, which no buffer reaches.
 ghost use mathlib.Core.Path.{_≡_};
-ghost use mathlib.Core.List.{[], _∷_, _++_, map};
+ghost use mathlib.Core.List.{[], _∷_, _++_};
 ghost use Rattle.base_sequences.specs.Stored.{Clipped};
 ghost use Rattle.base_readers.specs.Texts.{bytes, same};
 ghost use Rattle.text_write.specs.Phrases.{phrase};
@@ -47,10 +47,10 @@ fn put_results(w: &[u8], out: &mut [u8], to: usize) -> usize
 
 // The count itself.
 fn put_counted(w: &[u8], out: &mut [u8], to: usize) -> usize
-    ensures { λ r. ⌜ Clipped (now (out .entry)) to (bytes "; " ++ map shown (now (w .entry))) (now (out .exit)) r ⌝ }
+    ensures { λ r. ⌜ Clipped (now (out .entry)) to (bytes "; " ++ shown (now (w .entry))) (now (out .exit)) r ⌝ }
 {
     let a = text_write::put_part(b"; ", out, to);
-    explain_columns::put_shown(w, out, a)
+    explain_texts::put_text(w, out, a)
 }
 
 // How many results are not shown, by a column that counts them.
@@ -82,7 +82,7 @@ fn put_answer(w: &[u8], out: &mut [u8], to: usize) -> usize
     ensures { λ r. ⌜ Clipped (now (out .entry)) to (answerWords (now (w .entry))) (now (out .exit)) r ⌝ }
 {
     text_write::phrases::put_phrase(
-        b"; of a newer version: what it says is not read|; not well-formed: nothing of it is shown|",
+        b"; of a newer version: what it says is not read|; not well-formed: none of its results is shown|",
         answer_place(w),
         out,
         to,
@@ -107,7 +107,7 @@ fn put_whose(w: &[u8], out: &mut [u8], to: usize) -> usize
     ensures { λ r. ⌜ Clipped (now (out .entry)) to (whoseWords (now (w .entry))) (now (out .exit)) r ⌝ }
 {
     text_write::phrases::put_phrase(
-        b"in our own name: strip removes it|another's word: strip keeps it|its identifier can't be read: strip removes it",
+        b"in our own name: strip removes it; what it says is only claimed|another's word: strip keeps it|its identifier can't be read: strip removes it",
         whose_place(w),
         out,
         to,

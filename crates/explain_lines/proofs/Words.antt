@@ -2,7 +2,7 @@
 use Prim.Native.Nat.{ℕ, _<_, _^_}
 use native.Mathlib.Omega.{arith}
 use mathlib.Core.Path.{_≡_, refl}
-use mathlib.Core.List.{List, [], _++_, map}
+use mathlib.Core.List.{List, [], _++_}
 use lib.ListN.{length}
 use Rattle.base_sequences.specs.Stored.{Clipped}
 use Rattle.base_sequences.proofs.Clips.{clipped-long, clipped-then}
@@ -21,7 +21,7 @@ nothing-put old to h = record { place = omega arith; bytes = refl }
 -- ==== the columns of a result and of a property
 
 module _ (l old : List ℕ) (to : ℕ) (h : length old < 2 ^ 64) (rest : List ℕ) (e : rest ≡ behind l) where
-  pub method-put : (o : List ℕ) (a : ℕ) → Clipped old to (bytes "  " ++ text l) o a → (new : List ℕ) (r : ℕ) → Clipped o a (bytes ": " ++ text rest) new r
+  pub method-put : (o : List ℕ) (a : ℕ) → Clipped old to (bytes "  says " ++ text l) o a → (new : List ℕ) (r : ℕ) → Clipped o a (bytes ": " ++ text rest) new r
       → Clipped old to (methodWords l) new r
   unfolding methodWords
   method-put o a v new r u = clipped-then (omega arith) v (rw e at u)
@@ -34,7 +34,7 @@ module _ (l old : List ℕ) (to : ℕ) (h : length old < 2 ^ 64) (rest : List �
       clipped-then (omega arith) v (clipped-then (omega (arith, clipped-long v)) (rw e at u) (rw (q, p, e) at t))
 
 pub named-put : (n : ℕ) (l old : List ℕ) (to : ℕ) → length old < 2 ^ 64 → (o : List ℕ) (a : ℕ) → Clipped old to (phrase n labels) o a → (w : List ℕ) → w ≡ column l
-    → (new : List ℕ) (r : ℕ) → Clipped o a (map shown w) new r → Clipped old to (phrase n labels ++ text l) new r
+    → (new : List ℕ) (r : ℕ) → Clipped o a (shown w) new r → Clipped old to (phrase n labels ++ text l) new r
 named-put n l old to h o a v w e new r u = clipped-then (omega arith) v (rw e at u)
 
 -- ==== a line of a kind
@@ -52,7 +52,7 @@ module _ (k : Line) (l old : List ℕ) (to : ℕ) (new : List ℕ) (r : ℕ) whe
   unfolding words phrase start run
   version-words e v = rw e v
 
-  pub no-result-words : k ≡ NoResult → Clipped old to (bytes "  no results") new r → Clipped old to (words k l) new r
+  pub no-result-words : k ≡ NoResult → Clipped old to (bytes "  says that nothing was checked") new r → Clipped old to (words k l) new r
   unfolding words
   no-result-words e v = rw e v
 

@@ -4,4 +4,4 @@ use mathlib.Core.List.{List}
 use Rattle.base_readers.specs.Texts.{bytes}
 
 abbrev pub labels : List ℕ
-labels = bytes "  checked by |  header version |, reason: "
+labels = bytes "  says it was checked by |  says header version |, reason: "

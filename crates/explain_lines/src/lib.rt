@@ -13,7 +13,7 @@ ghost use Rattle.explain_lines.specs.Internal.{labels};
 fn put_method(l: &[u8], out: &mut [u8], to: usize) -> usize
     ensures { λ r. ⌜ Clipped (now (out .entry)) to (methodWords (now (l .entry))) (now (out .exit)) r ⌝ }
 {
-    let a = explain_columns::put_labelled(b"  ", l, out, to);
+    let a = explain_columns::put_labelled(b"  says ", l, out, to);
     explain_columns::put_labelled(b": ", explain_columns::behind(l), out, a)
 }
 
@@ -33,12 +33,12 @@ fn put_named(n: usize, l: &[u8], out: &mut [u8], to: usize) -> usize
     ensures { λ r. ⌜ Clipped (now (out .entry)) to (phrase n labels ++ text (now (l .entry))) (now (out .exit)) r ⌝ }
 {
     let a = text_write::phrases::put_phrase(
-        b"  checked by |  header version |, reason: ",
+        b"  says it was checked by |  says header version |, reason: ",
         n,
         out,
         to,
     );
-    explain_columns::put_shown(explain_columns::column(l), out, a)
+    explain_texts::put_text(explain_columns::column(l), out, a)
 }
 
 // A line of a kind, by what stands behind its first column.
@@ -49,7 +49,7 @@ fn put_words(k: Line, l: &[u8], out: &mut [u8], to: usize) -> usize
         Line::Field => explain_fields::put_field(l, out, to),
         Line::Identifier => put_named(0, l, out, to),
         Line::Version => put_named(1, l, out, to),
-        Line::NoResult => text_write::put_part(b"  no results", out, to),
+        Line::NoResult => text_write::put_part(b"  says that nothing was checked", out, to),
         Line::Method => put_method(l, out, to),
         Line::Reason => put_named(2, l, out, to),
         Line::Property => put_property(l, out, to),

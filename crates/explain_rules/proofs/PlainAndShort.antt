@@ -8,9 +8,9 @@ use lib.ListN.{length, getD}
 use Rattle.base_readers.specs.Texts.{within}
 use Rattle.base_readers.specs.Lines.{linesOf}
 use Rattle.explain_rules.specs.Explained.{explained}
-use Rattle.explain_rules.specs.Promise.{plain, added, fieldLines}
+use Rattle.explain_rules.specs.Promise.{plain, weighed, added, fieldLines, headLines}
 use Rattle.explain_rules.proofs.Terminal.{AllPlain, all-at, plain-when, lines-plain}
-use Rattle.explain_rules.proofs.Lengths.{lines-long, added-most, fields-few}
+use Rattle.explain_rules.proofs.Lengths.{weighed-most, lines-long, added-most, fields-few, heads-few}
 
 -- ==== no control byte but LF, and no byte from 127 up, reaches the terminal
 
@@ -24,14 +24,15 @@ explained-plain l k h = plain-when (getD (explained l) k 0) (all-at (explained l
 
 -- ==== how long it is: what was told, and for each line our own words
 
-pub explained-added : (l : List ℕ) → length (explained l) ≤ 42 + length l + added (linesOf l)
+pub explained-added : (l : List ℕ) → length (explained l) ≤ 42 + weighed l + added (linesOf l)
 unfolding explained
 explained-added [] = omega arith
 explained-added (x ∷ xs) = omega (arith, lines-long (x ∷ xs))
 
--- 17 bytes for each line, and 136 more for that of a field
-pub explained-long : (l : List ℕ) → length (explained l) ≤ 42 + length l + 17 * length (linesOf l) + 136 * fieldLines (linesOf l)
+-- 13 bytes for each line, 18 more for one that stands in front of results, and 144 more for that of a field
+pub explained-long : (l : List ℕ) → length (explained l) ≤ 42 + weighed l + 13 * length (linesOf l) + 18 * headLines (linesOf l) + 144 * fieldLines (linesOf l)
 explained-long l = omega (arith, explained-added l, added-most (linesOf l))
 
-pub explained-lines : (l : List ℕ) → length (explained l) ≤ 42 + length l + 153 * length (linesOf l)
-explained-lines l = omega (arith, explained-long l, fields-few (linesOf l))
+-- of any bytes: no byte weighs more than four
+pub explained-lines : (l : List ℕ) → length (explained l) ≤ 42 + 4 * length l + 175 * length (linesOf l)
+explained-lines l = omega (arith, explained-long l, weighed-most l, fields-few (linesOf l), heads-few (linesOf l))

@@ -1,19 +1,18 @@
 -- What a report says to a person: the lines of the report of a block (blockreport_rules), in words. Each field has a line that says whose word it is
--- and what is not shown of it, then one with its identifier, and one for each result with its reason and its properties. No text of a report has
--- a space, so none can look like a part that it is not.
+-- and what is not shown of it, then one with its identifier, and one for each result with its reason and its properties. What a field says is told as
+-- what it says, never as what is so, and no text of it can look like a part that it is not (`shownText`).
 use Prim.Native.Char.{code}
 use Prim.Native.Nat.{ℕ, suc}
 use mathlib.Core.Bool.{Bool, true, false, cond, not}
-use mathlib.Core.List.{List, [], _∷_, _++_, map}
+use mathlib.Core.List.{List, [], _∷_, _++_}
 use lib.Dec.{eqb}
 use lib.ListN.{take, drop}
 use Rattle.base_readers.specs.Texts.{bytes, same}
 use Rattle.base_readers.specs.Readers.{run}
-use Rattle.lexis_rules.specs.declared.Class.the-variants.{Visible}
-use Rattle.lexis_rules.specs.Bytes.{inClass}
 use Rattle.base_readers.specs.Lines.{linesOf}
 use Rattle.explain_rules.specs.declared.Line.{Line}
 use Rattle.explain_rules.specs.declared.Line.the-variants.{Field, Identifier, Version, NoResult, Method, Reason, Property, Other}
+use Rattle.explain_rules.specs.Texts.{decoded, shownText}
 
 -- ==== columns
 
@@ -41,19 +40,19 @@ kindOf w =
 
 -- ==== texts
 
--- a terminal is shown bytes 33 to 126 as they are; a report has no others, and any other is shown as "?"
-unfoldable pub shown : ℕ → ℕ
-shown x = cond (inClass Visible x) x (code "?")
+-- the text of a column, and that of the first one, as they are shown
+abbrev pub shown : List ℕ → List ℕ
+shown w = shownText (decoded w)
 
 abbrev pub text : List ℕ → List ℕ
-text l = map shown (column l)
+text l = shown (column l)
 
 -- ==== what is said of a field
 
--- whose word it is, and what stripping does with it
+-- whose word it is, and what stripping does with it. Who writes our own name into a field need not be us, so what such a field says is only claimed
 unfoldable pub whoseWords : List ℕ → List ℕ
 whoseWords w =
-    cond (same w (bytes "own")) (bytes "in our own name: strip removes it")
+    cond (same w (bytes "own")) (bytes "in our own name: strip removes it; what it says is only claimed")
     (cond (same w (bytes "other")) (bytes "another's word: strip keeps it")
     (bytes "its identifier can't be read: strip removes it"))
 
@@ -61,13 +60,13 @@ whoseWords w =
 unfoldable pub answerWords : List ℕ → List ℕ
 answerWords w =
     cond (same w (bytes "8")) (bytes "; of a newer version: what it says is not read")
-    (cond (same w (bytes "9")) (bytes "; not well-formed: nothing of it is shown") [])
+    (cond (same w (bytes "9")) (bytes "; not well-formed: none of its results is shown") [])
 
 -- how many results are not shown, and why
 unfoldable pub countWords : List ℕ → List ℕ
 countWords w =
     cond (same w (bytes "0")) []
-    (bytes "; " ++ (map shown w ++ (cond (same w (bytes "1")) (bytes " result") (bytes " results") ++ bytes " of a newer version or not known: not shown")))
+    (bytes "; " ++ (shown w ++ (cond (same w (bytes "1")) (bytes " result") (bytes " results") ++ bytes " of a newer version or not known: not shown")))
 
 -- the columns behind `field`: its number, whose it is, its answer and how many results are ignored
 unfoldable pub fieldWords : List ℕ → List ℕ
@@ -79,7 +78,7 @@ fieldWords l =
 
 -- method and result
 unfoldable pub methodWords : List ℕ → List ℕ
-methodWords l = bytes "  " ++ (text l ++ (bytes ": " ++ text (behind l)))
+methodWords l = bytes "  says " ++ (text l ++ (bytes ": " ++ text (behind l)))
 
 -- ptype, property, and behind the letter of its kind the text
 unfoldable pub propertyWords : List ℕ → List ℕ
@@ -88,9 +87,9 @@ propertyWords l = bytes ", " ++ (text l ++ (bytes "." ++ (text (behind l) ++ (by
 -- a line that is of this kind, by what stands behind its first column
 unfoldable pub words : Line → List ℕ → List ℕ
 words Field l = fieldWords l
-words Identifier l = bytes "  checked by " ++ text l
-words Version l = bytes "  header version " ++ text l
-words NoResult l = bytes "  no results"
+words Identifier l = bytes "  says it was checked by " ++ text l
+words Version l = bytes "  says header version " ++ text l
+words NoResult l = bytes "  says that nothing was checked"
 words Method l = methodWords l
 words Reason l = bytes ", reason: " ++ text l
 words Property l = propertyWords l

@@ -7,7 +7,7 @@ use Rattle.command_buffers.proofs.explained.Tie as tie
 use Rattle.command_buffers.proofs.explained.Lts as lts
 
 returns : tie.Need-returns
-returns c = zeros (count (tyR lts.r)) 524288 refl
+returns c = zeros (count (tyR lts.r)) 786432 refl
 
 pub explained-spec : {M : Type 1} → statement M
 explained-spec = tie.close (tie.spec returns)

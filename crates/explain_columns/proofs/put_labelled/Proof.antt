@@ -10,8 +10,8 @@ put-part-requires c κs = search needs
 column-requires : tie.Need-column-requires
 column-requires c κs = search needs
 
-put-shown-requires : tie.Need-put-shown-requires
-put-shown-requires c κs = search needs
+put-text-requires : tie.Need-put-text-requires
+put-text-requires c κs = search needs
 
 same-length : tie.Need-same-length
 same-length c = search needs
@@ -21,4 +21,4 @@ returns c = search labelled-put
 
 pub put-labelled-spec : {M : Type 1} → statement M
 put-labelled-spec =
-    tie.close (tie.spec put-part-requires column-requires put-shown-requires same-length returns)
+    tie.close (tie.spec put-part-requires column-requires put-text-requires same-length returns)

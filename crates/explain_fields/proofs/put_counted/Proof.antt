@@ -10,8 +10,8 @@ slice-aggregate-put-part c = search needs
 put-part-requires : tie.Need-put-part-requires
 put-part-requires c κs = search needs
 
-put-shown-requires : tie.Need-put-shown-requires
-put-shown-requires c κs = search needs
+put-text-requires : tie.Need-put-text-requires
+put-text-requires c κs = search needs
 
 same-length : tie.Need-same-length
 same-length c = search needs
@@ -22,4 +22,4 @@ returns c = search counted-put
 pub put-counted-spec : {M : Type 1} → statement M
 put-counted-spec =
     tie.close
-    (tie.spec slice-aggregate-put-part put-part-requires put-shown-requires same-length returns)
+    (tie.spec slice-aggregate-put-part put-part-requires put-text-requires same-length returns)

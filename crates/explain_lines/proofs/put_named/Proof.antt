@@ -13,8 +13,8 @@ put-phrase-requires c κs = search needs
 column-requires : tie.Need-column-requires
 column-requires c κs = search needs
 
-put-shown-requires : tie.Need-put-shown-requires
-put-shown-requires c κs = search needs
+put-text-requires : tie.Need-put-text-requires
+put-text-requires c κs = search needs
 
 same-length : tie.Need-same-length
 same-length c = search needs
@@ -29,6 +29,6 @@ put-named-spec =
     slice-aggregate-put-phrase
     put-phrase-requires
     column-requires
-    put-shown-requires
+    put-text-requires
     same-length
     returns)
