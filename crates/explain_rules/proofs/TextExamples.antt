@@ -74,8 +74,8 @@ shown-hex : shown (bytes "%00%0A%1B%1F%20~%7F%80%AF%FF") ∷ shown (27 ∷ 171 �
 unfolding opened
 shown-hex = refl
 
--- a percent sign is shown as one
-shown-percent : shown (bytes "100%25") ∷ shown (bytes "%2g") ∷ [] ≡ bytes "\"100%\"" ∷ bytes "\"%2g\"" ∷ []
+-- a percent sign is shown as one, also before two digits
+shown-percent : shown (bytes "100%25") ∷ shown (bytes "%2g") ∷ shown (bytes "%2541") ∷ [] ≡ bytes "\"100%\"" ∷ bytes "\"%2g\"" ∷ bytes "\"%41\"" ∷ []
 unfolding opened
 shown-percent = refl
 

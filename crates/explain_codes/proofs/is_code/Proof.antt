@@ -26,7 +26,7 @@ hex-requires-2 : tie.Need-hex-requires-2
 hex-requires-2 c κs = search needs
 
 returns-3 : tie.Need-returns-3
-returns-3 c = search code-second
+returns-3 c = code-second _ _ (c .before .before .before .before .before .before .byte .ensures) (c .before .before .before .before .before .if1 .left) _ (c .before .before .before .before .byte2 .ensures) _ (c .before .before .before .hex .ensures) (c .before .before .if2 .left) _ (c .before .byte3 .ensures) _ (c .hex2 .ensures)
 
 pub is-code-spec : {M : Type 1} → statement M
 is-code-spec =

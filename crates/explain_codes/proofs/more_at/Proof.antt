@@ -8,7 +8,7 @@ is-code-requires : tie.Need-is-code-requires
 is-code-requires c κs = search needs
 
 returns : tie.Need-returns
-returns c = search more-of-code
+returns c = more-of-code _ _ (c .before .is-code .ensures) (c .if1 .taken)
 
 returns-2 : tie.Need-returns-2
 returns-2 c = search more-of-other

@@ -4,7 +4,7 @@ use Rattle.explain_texts.proofs.is_mark.Statement.{statement}
 use Rattle.explain_texts.proofs.is_mark.Tie as tie
 
 returns : tie.Need-returns
-returns c = search mark-quote
+returns c = mark-quote _ (c .if1 .taken)
 
 returns-2 : tie.Need-returns-2
 returns-2 c = search mark-slash

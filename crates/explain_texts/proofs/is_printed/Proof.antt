@@ -7,7 +7,7 @@ returns : tie.Need-returns
 returns c = search printed-low
 
 returns-2 : tie.Need-returns-2
-returns-2 c = search printed-high
+returns-2 c = printed-high _ (c .if1 .left)
 
 pub is-printed-spec : {M : Type 1} → statement M
 is-printed-spec = tie.close (tie.spec returns returns-2)

@@ -41,7 +41,7 @@ loop-again : tie.Need-loop-again Inv-loop μ-loop
 loop-again c = search fine-more
 
 returns-2 : tie.Need-returns-2 Inv-loop μ-loop
-returns-2 c = search fine-done
+returns-2 c = fine-done _ _ (c .before .loop .inv) (c .loop-test .left)
 
 pub is-word-spec : {M : Type 1} → statement M
 is-word-spec =

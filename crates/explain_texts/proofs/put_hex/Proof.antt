@@ -1,4 +1,5 @@
 -- `explain_texts::put_hex` meets its contract: the backslash, the letter and two digits one after the other.
+use native.Mathlib.Omega.{arith}
 use Rattle.explain_texts.proofs.Texts.{hex-put}
 use borrow.Author.Needs.{needs}
 use Rattle.explain_texts.proofs.put_hex.Statement.{statement}
@@ -26,7 +27,7 @@ same-length : tie.Need-same-length
 same-length c = search needs
 
 returns : tie.Need-returns
-returns c = search hex-put
+returns c = hex-put (c .before .before .before .before .before .before .before .before .before .before .before .before .before .before .before .before .args .b) _ _ (omega arith) _ _ (c .before .before .before .before .before .before .before .before .before .before .before .before .put-part .ensures) _ (c .before .before .before .before .before .before .before .before .before .hex-digit .ensures) _ _ (c .before .before .before .before .before .before .before .put-byte .ensures) _ (c .before .before .before .before .hex-digit2 .ensures) _ _ (c .before .before .put-byte2 .ensures)
 
 pub put-hex-spec : {M : Type 1} → statement M
 put-hex-spec =

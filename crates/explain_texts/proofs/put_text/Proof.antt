@@ -1,4 +1,5 @@
 -- `explain_texts::put_text` meets its contract: a word has the bytes that it would have between quotes, and any other text has the quotes around them.
+use native.Mathlib.Omega.{arith}
 use Rattle.explain_texts.proofs.Texts.{bare-put, quotes-put}
 use borrow.Author.Needs.{needs}
 use Rattle.explain_texts.proofs.put_text.Statement.{statement}
@@ -29,7 +30,7 @@ same-length-2 : tie.Need-same-length-2
 same-length-2 c = search needs
 
 returns-2 : tie.Need-returns-2
-returns-2 c = search quotes-put
+returns-2 c = quotes-put _ _ _ _ (c .before .before .before .before .before .before .before .before .before .before .before .before .before .is-word .ensures) (c .before .before .before .before .before .before .before .before .before .before .before .before .if1 .left) (omega arith) _ _ (c .before .before .before .before .before .before .before .before .before .before .put-byte .ensures) _ _ (c .before .before .before .before .before .before .put-quoted2 .ensures) _ _ (c .before .before .put-byte2 .ensures)
 
 pub put-text-spec : {M : Type 1} → statement M
 put-text-spec =
