@@ -1,6 +1,7 @@
 // The command: `command strip LIST` writes the block on standard input without the Authentication-Results fields that speak in our own name
 // or in none; `command report LIST` writes what each Authentication-Results field of it says, and `command explain LIST` the same in words. LIST is a file with our own
-// identifiers, one to a line. `command judge VERDICTS` writes what the ARC chain of the block says by VERDICTS, one digit from 0 to 3 for each set from the first: 2 if its
+// identifiers, one to a line; what is noticed of it is said on standard error before the last line. `command check LIST` writes how its entries are compared and what is
+// noticed of them. `command judge VERDICTS` writes what the ARC chain of the block says by VERDICTS, one digit from 0 to 3 for each set from the first: 2 if its
 // seal verified, plus 1 if its signature did. `command write` writes the body of a field of our own from the report lines on standard input.
 //
 // Each is reading, one call and writing what it gave (`command_subcommands`). A body is written as it is, with no
@@ -20,6 +21,7 @@ fn ending_of(asked: Asked, block: &[u8], list: &[u8]) -> Ending {
         Asked::Report => command_subcommands::report_block(block, list),
         Asked::Explain => command_subcommands::explain_block(block, list),
         Asked::Judge => Ending::Usage,
+        Asked::Check => Ending::Usage,
         Asked::Write => Ending::Usage,
         Asked::Nothing => Ending::Usage,
     }
@@ -42,7 +44,29 @@ fn run(list_file: i32, asked: Asked) {
     let m = entries.length;
     let n = fields.length;
     let ending = ending_of(asked, &block[..n], &list[..m]);
+    command_subcommands::tell_notes(&list[..m]);
     command_ending::end(ending, &list[..m]);
+}
+
+// Reads the list, and says how it is compared and what is noticed of it. Nothing else is read.
+fn check(list_file: i32) {
+    let mut list = command_buffers::list();
+    let entries = command_files::read_whole(list_file, &mut list);
+    if !entries.whole {
+        command_ending::end(Ending::ListUnread, &list[..0]);
+        return;
+    }
+    let m = entries.length;
+    let ending = command_subcommands::check_list(&list[..m]);
+    command_ending::end(ending, &list[..m]);
+}
+
+// Does with a list what is asked.
+fn with_file(list_file: i32, asked: Asked) {
+    match asked {
+        Asked::Check => check(list_file),
+        _ => run(list_file, asked),
+    }
 }
 
 // Opens the list that the second argument names.
@@ -51,7 +75,7 @@ fn with_list(asked: Asked) {
     let n = os::arg(2, &mut path);
     match command_files::open(&path[..n]) {
         Opened::File(file) => {
-            run(file, asked);
+            with_file(file, asked);
             libc::close(file);
         }
         Opened::Closed => {
@@ -102,6 +126,7 @@ fn main() {
         Asked::Report => with_list(Asked::Report),
         Asked::Explain => with_list(Asked::Explain),
         Asked::Judge => with_verdicts(),
+        Asked::Check => with_list(Asked::Check),
         Asked::Write => with_lines(),
         Asked::Nothing => {
             command_ending::end(Ending::Usage, b"");

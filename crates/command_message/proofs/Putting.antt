@@ -15,7 +15,7 @@ use Rattle.text_decimals_rules.specs.Decimals.{decimal}
 use Rattle.command_rules.specs.declared.Ending.{Ending}
 use Rattle.command_rules.specs.declared.Ending.the-variants.{Done, Usage, ListClosed, ListUnread, InputUnread, InputTooLong, OutputTooLong, Unwritten, VerdictsRefused, Refused, LinesRefused}
 use Rattle.command_rules.proofs.Ending.{the-type}
-use Rattle.command_rules.specs.Messages.{meaning, linesMeaning, opening, closing, refusalLine, linesRefusal, endingLine}
+use Rattle.command_rules.specs.Messages.{meaning, linesMeaning, opening, closing, refusalLine, linesRefusal, verdictsLine, endingLine}
 use Rattle.command_message.specs.Internal.{tolds, toldBy}
 
 -- ==== the line
@@ -27,6 +27,10 @@ module _ (old : List ℕ) (l : length old < 2 ^ 64) (to : ℕ) (o : List ℕ) (i
 
   pub closing-put : (place : ℕ) → Clipped old to (decimal place) o i → (new : List ℕ) (r : ℕ) → Clipped o i (bytes "\n") new r → Clipped old to (closing place) new r
   closing-put place u new r v = clipped-then (omega arith) u v
+
+  pub verdicts-put : (sets : ℕ) → Clipped old to (bytes "orbendash: 10: bad verdicts: a chain that is built needs one digit from 0 to 3 for each set, of which this one has ") o i
+      → (new : List ℕ) (r : ℕ) → Clipped o i (closing sets) new r → Clipped old to (verdictsLine sets) new r
+  verdicts-put sets u new r v = clipped-then (omega arith) u v
 
   module _ (n : ℕ) (u : Clipped old to (opening n) o i) (p : List ℕ) (j : ℕ) where
     pub lines-put : (place : ℕ) → Clipped o i (linesMeaning n) p j → (new : List ℕ) (r : ℕ) → Clipped p j (closing place) new r → Clipped old to (linesRefusal n place) new r
@@ -45,7 +49,7 @@ ending-put e f q list old to new r w = rw q w
 
 -- the endings that are told by one phrase, by their places among all
 abbrev tags : List ℕ
-tags = 0 ∷ 1 ∷ 2 ∷ 3 ∷ 4 ∷ 5 ∷ 6 ∷ 7 ∷ 8 ∷ []
+tags = 0 ∷ 1 ∷ 2 ∷ 3 ∷ 4 ∷ 5 ∷ 6 ∷ 7 ∷ []
 
 abbrev Told : Ending → Type 0
 Told e = OneOf tags (tagOf the-type e)
@@ -60,7 +64,7 @@ told-line InputUnread list k = refl
 told-line InputTooLong list k = refl
 told-line OutputTooLong list k = refl
 told-line Unwritten list k = refl
-told-line VerdictsRefused list k = refl
+told-line (VerdictsRefused sets) list k = absurd (miss tags 8 tt k)
 told-line (Refused number place) list k = absurd (miss tags 9 tt k)
 told-line (LinesRefused number place) list k = absurd (miss tags 10 tt k)
 

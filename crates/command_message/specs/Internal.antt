@@ -8,7 +8,7 @@ use Rattle.command_rules.specs.declared.Ending.the-variants.{Done, Usage, ListC
 
 abbrev pub tolds : List ℕ
 tolds =
-    bytes "orbendash: 0: done\n|orbendash: 64: usage: orbendash strip LIST < BLOCK, the same with report or explain, orbendash judge VERDICTS < BLOCK, orbendash write < LINES or orbendash --help\n|orbendash: 66: the list can't be opened\n|orbendash: 66: the list can't be read\n|orbendash: 74: standard input can't be read\n|orbendash: 74: standard input can't be read whole: it has more than 262,144 bytes\n|orbendash: 70: the output is too long\n|orbendash: 74: standard output can't be written\n|orbendash: 10: bad verdicts: a chain that is built needs one digit from 0 to 3 for each set, at 0\n"
+    bytes "orbendash: 0: done\n|orbendash: 64: usage: orbendash strip LIST < BLOCK, the same with report or explain, orbendash check LIST, orbendash judge VERDICTS < BLOCK, orbendash write < LINES or orbendash --help\n|orbendash: 66: the list can't be opened\n|orbendash: 66: the list can't be read\n|orbendash: 74: standard input can't be read\n|orbendash: 74: standard input can't be read whole: it has more than 262,144 bytes\n|orbendash: 70: the output is too long\n|orbendash: 74: standard output can't be written\n"
 
 -- which of them tells an ending, counted from 0
 unfoldable pub toldBy : Ending → ℕ
@@ -20,6 +20,6 @@ toldBy InputUnread = 4
 toldBy InputTooLong = 5
 toldBy OutputTooLong = 6
 toldBy Unwritten = 7
-toldBy VerdictsRefused = 8
-toldBy (Refused number place) = 9
-toldBy (LinesRefused number place) = 9
+toldBy (VerdictsRefused sets) = 8
+toldBy (Refused number place) = 8
+toldBy (LinesRefused number place) = 8

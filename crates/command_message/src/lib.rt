@@ -10,7 +10,7 @@ use command_rules::Ending;
 ghost use mathlib.Core.Path.{_≡_};
 ghost use Rattle.base_sequences.specs.Stored.{Clipped};
 ghost use Rattle.text_write.specs.Phrases.{phrase};
-ghost use Rattle.command_rules.specs.Messages.{opening, closing, refusalLine, linesRefusal, endingLine};
+ghost use Rattle.command_rules.specs.Messages.{opening, closing, refusalLine, linesRefusal, verdictsLine, endingLine};
 ghost use Rattle.command_message.specs.Internal.{tolds, toldBy};
 
 // The front of the line of a refusal.
@@ -49,19 +49,31 @@ fn put_lines_refusal(number: u8, place: usize, out: &mut [u8], to: usize) -> usi
     put_closing(place, out, said)
 }
 
+// The line of bad verdicts.
+fn put_verdicts(sets: usize, out: &mut [u8], to: usize) -> usize
+    ensures { λ r. ⌜ Clipped (now (out .entry)) to (verdictsLine sets) (now (out .exit)) r ⌝ }
+{
+    let said = text_write::put_part(
+        b"orbendash: 10: bad verdicts: a chain that is built needs one digit from 0 to 3 for each set, of which this one has ",
+        out,
+        to,
+    );
+    put_closing(sets, out, said)
+}
+
 // The line of an ending that is told by one phrase.
 fn put_told(n: usize, out: &mut [u8], to: usize) -> usize
     ensures { λ r. ⌜ Clipped (now (out .entry)) to (phrase n tolds) (now (out .exit)) r ⌝ }
 {
     text_write::phrases::put_phrase(
-        b"orbendash: 0: done\n|orbendash: 64: usage: orbendash strip LIST < BLOCK, the same with report or explain, orbendash judge VERDICTS < BLOCK, orbendash write < LINES or orbendash --help\n|orbendash: 66: the list can't be opened\n|orbendash: 66: the list can't be read\n|orbendash: 74: standard input can't be read\n|orbendash: 74: standard input can't be read whole: it has more than 262,144 bytes\n|orbendash: 70: the output is too long\n|orbendash: 74: standard output can't be written\n|orbendash: 10: bad verdicts: a chain that is built needs one digit from 0 to 3 for each set, at 0\n",
+        b"orbendash: 0: done\n|orbendash: 64: usage: orbendash strip LIST < BLOCK, the same with report or explain, orbendash check LIST, orbendash judge VERDICTS < BLOCK, orbendash write < LINES or orbendash --help\n|orbendash: 66: the list can't be opened\n|orbendash: 66: the list can't be read\n|orbendash: 74: standard input can't be read\n|orbendash: 74: standard input can't be read whole: it has more than 262,144 bytes\n|orbendash: 70: the output is too long\n|orbendash: 74: standard output can't be written\n",
         n,
         out,
         to,
     )
 }
 
-// Which phrase tells an ending, counted from 0; the two refusals, which have a number and a place of their own, are told by none.
+// Which phrase tells an ending, counted from 0; the refusals, which have a number of their own, are told by none.
 fn told(ending: Ending) -> usize
     ensures { λ r. ⌜ r ≡ toldBy ending ⌝ }
 {
@@ -74,9 +86,9 @@ fn told(ending: Ending) -> usize
         Ending::InputTooLong => 5,
         Ending::OutputTooLong => 6,
         Ending::Unwritten => 7,
-        Ending::VerdictsRefused => 8,
-        Ending::Refused { number, place } => 9,
-        Ending::LinesRefused { number, place } => 9,
+        Ending::VerdictsRefused { sets } => 8,
+        Ending::Refused { number, place } => 8,
+        Ending::LinesRefused { number, place } => 8,
     }
 }
 
@@ -87,6 +99,7 @@ pub fn put_ending(ending: Ending, list: &[u8], out: &mut [u8], to: usize) -> usi
     match ending {
         Ending::Refused { number, place } => put_refusal(number, place, list, out, to),
         Ending::LinesRefused { number, place } => put_lines_refusal(number, place, out, to),
+        Ending::VerdictsRefused { sets } => put_verdicts(sets, out, to),
         _ => put_told(told(ending), out, to),
     }
 }

@@ -5,6 +5,8 @@ use mathlib.Core.List.{List}
 use lib.Dec.{eqb}
 use lib.ListN.{length}
 use Rattle.base_sequences.specs.Stored.{cap}
+use Rattle.ownlist_check.specs.declared.Checked.{Checked}
+use Rattle.ownlist_check.specs.Steps.{numberOf, placeOf}
 use Rattle.strip_rules.specs.declared.Stripped.{Stripped}
 use Rattle.blockreport_rules.specs.declared.BlockReported.{BlockReported}
 use Rattle.write_rules.specs.declared.Written.{Written}
@@ -25,12 +27,16 @@ ReportEnds room a r = Outcome (a .number) (Refused (a .number) (a .place)) room 
 abbrev pub ExplainEnds : BlockReported → List ℕ → Ending → Type 0
 ExplainEnds a lines r = Outcome (a .number) (Refused (a .number) (a .place)) 786432 (min (length (explained lines)) cap) r
 
--- bad verdicts have a line of their own
-abbrev pub verdictsRefusal : ℕ → ℕ → Ending
-verdictsRefusal number place = cond (eqb number 10) VerdictsRefused (Refused number place)
+-- bad verdicts have a line of their own, which tells how many sets the chain has
+abbrev pub verdictsRefusal : ℕ → ℕ → ℕ → Ending
+verdictsRefusal number place sets = cond (eqb number 10) (VerdictsRefused sets) (Refused number place)
 
-abbrev pub JudgeEnds : Judged → Ending → Type 0
-JudgeEnds j r = Outcome (j .number) (verdictsRefusal (j .number) (j .place)) 512 (min (length (judgement j)) cap) r
+abbrev pub JudgeEnds : Judged → ℕ → Ending → Type 0
+JudgeEnds j sets r = Outcome (j .number) (verdictsRefusal (j .number) (j .place) sets) 512 (min (length (judgement j)) cap) r
+
+-- a list was checked, and this is said of it where it is good
+abbrev pub CheckEnds : Checked → List ℕ → Ending → Type 0
+CheckEnds d text r = Outcome (numberOf d) (Refused (numberOf d) (placeOf d)) 229377 (min (length text) cap) r
 
 abbrev pub WriteEnds : ℕ → Written → Ending → Type 0
 WriteEnds room a r = Outcome (a .number) (LinesRefused (a .number) (a .place)) room (a .written) r

@@ -26,7 +26,7 @@ Told InputUnread = Unit {0}
 Told InputTooLong = Unit {0}
 Told OutputTooLong = Unit {0}
 Told Unwritten = Unit {0}
-Told VerdictsRefused = Unit {0}
+Told (VerdictsRefused sets) = sets < 2 ^ 64
 
 fault-short : (count : ℕ) (xs : List ℕ) → length (fault count xs) ≤ 38
 unfolding fault
@@ -86,7 +86,9 @@ ending-fits InputUnread list t = lit≤ tt
 ending-fits InputTooLong list t = lit≤ tt
 ending-fits OutputTooLong list t = lit≤ tt
 ending-fits Unwritten list t = lit≤ tt
-ending-fits VerdictsRefused list t = lit≤ tt
+ending-fits (VerdictsRefused sets) list t =
+    let front = bytes "orbendash: 10: bad verdicts: a chain that is built needs one digit from 0 to 3 for each set, of which this one has " in
+    omega (arith, length-append front (closing sets), closing-short sets t)
 ending-fits (Refused n p) list t =
     omega (
       arith,

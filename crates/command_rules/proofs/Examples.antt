@@ -6,7 +6,7 @@ use Rattle.base_readers.specs.Texts.{bytes, same}
 use Rattle.base_readers.specs.Readers.{run}
 use Rattle.base_readers.proofs.Cases.{copies}
 use Rattle.text_decimals_rules.specs.Decimals.{digits, decimal}
-use Rattle.command_rules.specs.declared.Asked.the-variants.{Strip, Report, Explain, Judge, Write, Nothing}
+use Rattle.command_rules.specs.declared.Asked.the-variants.{Strip, Report, Explain, Judge, Check, Write, Nothing}
 use Rattle.command_rules.specs.declared.Ending.the-variants.{Done, Usage, ListClosed, ListUnread, InputUnread, InputTooLong, OutputTooLong, Unwritten, VerdictsRefused, Refused, LinesRefused}
 use Rattle.command_rules.specs.Words.{asked}
 use Rattle.command_rules.specs.Messages.{feeds, feedless, fault, faultAt, meaning, linesMeaning, endingLine}
@@ -29,6 +29,10 @@ asks-judge : asked 3 (bytes "judge") ≡ Judge
 unfolding asked same
 asks-judge = refl
 
+asks-check : asked 3 (bytes "check") ≡ Check
+unfolding asked same
+asks-check = refl
+
 asks-write : asked 2 (bytes "write") ≡ Write
 unfolding asked same
 asks-write = refl
@@ -49,6 +53,10 @@ asks-none = refl
 strip-unlisted : asked 2 (bytes "strip") ≡ Nothing
 unfolding asked same
 strip-unlisted = refl
+
+check-unlisted : asked 2 (bytes "check") ≡ Nothing
+unfolding asked same
+check-unlisted = refl
 
 write-listed : asked 3 (bytes "write") ≡ Nothing
 unfolding asked same
@@ -159,12 +167,13 @@ unfolding endingLine
 done = refl
 
 usage : endingLine Usage []
-    ≡ bytes "orbendash: 64: usage: orbendash strip LIST < BLOCK, the same with report or explain, orbendash judge VERDICTS < BLOCK, orbendash write < LINES or orbendash --help\n"
+    ≡ bytes "orbendash: 64: usage: orbendash strip LIST < BLOCK, the same with report or explain, orbendash check LIST, orbendash judge VERDICTS < BLOCK, orbendash write < LINES or orbendash --help\n"
 unfolding endingLine
 usage = refl
 
-verdicts-refused : endingLine VerdictsRefused [] ≡ bytes "orbendash: 10: bad verdicts: a chain that is built needs one digit from 0 to 3 for each set, at 0\n"
-unfolding endingLine
+verdicts-refused : endingLine (VerdictsRefused 12) []
+    ≡ bytes "orbendash: 10: bad verdicts: a chain that is built needs one digit from 0 to 3 for each set, of which this one has 12\n"
+unfolding said
 verdicts-refused = refl
 
 list-closed : endingLine ListClosed [] ≡ bytes "orbendash: 66: the list can't be opened\n"

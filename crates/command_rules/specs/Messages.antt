@@ -98,16 +98,20 @@ refusalLine number place list = opening number ++ (meaning number place list ++ 
 abbrev pub linesRefusal : ℕ → ℕ → List ℕ
 linesRefusal number place = opening number ++ (linesMeaning number ++ closing place)
 
+-- bad verdicts, and how many sets the chain has (01, number 10)
+abbrev pub verdictsLine : ℕ → List ℕ
+verdictsLine sets = bytes "orbendash: 10: bad verdicts: a chain that is built needs one digit from 0 to 3 for each set, of which this one has " ++ closing sets
+
 -- the line of an ending, where our own list is this
 unfoldable pub endingLine : Ending → List ℕ → List ℕ
 endingLine Done list = bytes "orbendash: 0: done\n"
-endingLine Usage list = bytes "orbendash: 64: usage: orbendash strip LIST < BLOCK, the same with report or explain, orbendash judge VERDICTS < BLOCK, orbendash write < LINES or orbendash --help\n"
+endingLine Usage list = bytes "orbendash: 64: usage: orbendash strip LIST < BLOCK, the same with report or explain, orbendash check LIST, orbendash judge VERDICTS < BLOCK, orbendash write < LINES or orbendash --help\n"
 endingLine ListClosed list = bytes "orbendash: 66: the list can't be opened\n"
 endingLine ListUnread list = bytes "orbendash: 66: the list can't be read\n"
 endingLine InputUnread list = bytes "orbendash: 74: standard input can't be read\n"
 endingLine InputTooLong list = bytes "orbendash: 74: standard input can't be read whole: it has more than 262,144 bytes\n"
 endingLine OutputTooLong list = bytes "orbendash: 70: the output is too long\n"
 endingLine Unwritten list = bytes "orbendash: 74: standard output can't be written\n"
-endingLine VerdictsRefused list = bytes "orbendash: 10: bad verdicts: a chain that is built needs one digit from 0 to 3 for each set, at 0\n"
+endingLine (VerdictsRefused sets) list = verdictsLine sets
 endingLine (Refused number place) list = refusalLine number place list
 endingLine (LinesRefused number place) list = linesRefusal number place

@@ -7,6 +7,7 @@ pub enum Asked {
     Report,
     Explain,
     Judge,
+    Check,
     Write,
     // None of the things that the command does.
     Nothing,
@@ -30,8 +31,8 @@ pub enum Ending {
     OutputTooLong,
     // A write of the output failed.
     Unwritten,
-    // The verdicts are not those that the chain needs (01, number 10).
-    VerdictsRefused,
+    // The verdicts are not those that the chain needs, which has so many sets (01, number 10).
+    VerdictsRefused { sets: usize },
     // A block or our own list is refused, by a number of 01.
     Refused { number: u8, place: usize },
     // Report lines are refused, by a number of 02.

@@ -20,6 +20,9 @@ pub fn asked(count: usize, word: &[u8]) -> Asked
         if text_compare::exact::is_same(word, b"judge") {
             return Asked::Judge;
         }
+        if text_compare::exact::is_same(word, b"check") {
+            return Asked::Check;
+        }
         return Asked::Nothing;
     }
     if count == 2 {

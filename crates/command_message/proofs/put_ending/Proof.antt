@@ -17,6 +17,12 @@ enum-known-ending-2 c = search needs
 put-lines-refusal-requires : tie.Need-put-lines-refusal-requires
 put-lines-refusal-requires c κs = search needs
 
+enum-known-ending-3 : tie.Need-enum-known-ending-3
+enum-known-ending-3 c = search needs
+
+put-verdicts-requires : tie.Need-put-verdicts-requires
+put-verdicts-requires c κs = search needs
+
 told-requires : tie.Need-told-requires
 told-requires c κs = search needs
 
@@ -41,7 +47,14 @@ same-length-3 : tie.Need-same-length-3
 same-length-3 c = search needs
 
 returns-3 : tie.Need-returns-3
-returns-3 c = told-put _ (c .before .before .before .before .before .match .keys3) _ (c .before .before .before .before .told .ensures) (c .before .before .before .before .before .before .before .before .args .list .now) _ _ _ _ (c .before .before .put-told .ensures)
+unfolding endingLine
+returns-3 c = ending-put _ _ (c .before .before .before .before .before .ending3 .given .1) (c .before .before .before .before .before .before .before .before .before .args .list .now) _ _ _ _ (c .before .before .put-verdicts .ensures)
+
+same-length-4 : tie.Need-same-length-4
+same-length-4 c = search needs
+
+returns-4 : tie.Need-returns-4
+returns-4 c = told-put _ (c .before .before .before .before .before .match .keys4) _ (c .before .before .before .before .told .ensures) (c .before .before .before .before .before .before .before .before .args .list .now) _ _ _ _ (c .before .before .put-told .ensures)
 
 pub put-ending-spec : {M : Type 1} → statement M
 put-ending-spec =
@@ -51,6 +64,8 @@ put-ending-spec =
     put-refusal-requires
     enum-known-ending-2
     put-lines-refusal-requires
+    enum-known-ending-3
+    put-verdicts-requires
     told-requires
     put-told-requires
     same-length
@@ -58,4 +73,6 @@ put-ending-spec =
     same-length-2
     returns-2
     same-length-3
-    returns-3)
+    returns-3
+    same-length-4
+    returns-4)

@@ -29,14 +29,14 @@ enum-told-7 c = search needs
 enum-told-8 : tie.Need-enum-told-8
 enum-told-8 c = search needs
 
-enum-told-9 : tie.Need-enum-told-9
-enum-told-9 c = search needs
-
 enum-known-ending : tie.Need-enum-known-ending
 enum-known-ending c = search needs
 
 enum-known-ending-2 : tie.Need-enum-known-ending-2
 enum-known-ending-2 c = search needs
+
+enum-known-ending-3 : tie.Need-enum-known-ending-3
+enum-known-ending-3 c = search needs
 
 returns : tie.Need-returns
 unfolding toldBy
@@ -72,15 +72,15 @@ returns-8 c = ap toldBy (sym (c .enum-told8 .given .1))
 
 returns-9 : tie.Need-returns-9
 unfolding toldBy
-returns-9 c = ap toldBy (sym (c .enum-told9 .given .1))
+returns-9 c = ap toldBy (sym (c .before .ending .given .1))
 
 returns-10 : tie.Need-returns-10
 unfolding toldBy
-returns-10 c = ap toldBy (sym (c .before .ending .given .1))
+returns-10 c = ap toldBy (sym (c .before .ending2 .given .1))
 
 returns-11 : tie.Need-returns-11
 unfolding toldBy
-returns-11 c = ap toldBy (sym (c .before .ending2 .given .1))
+returns-11 c = ap toldBy (sym (c .before .ending3 .given .1))
 
 pub told-spec : {M : Type 1} → statement M
 told-spec =
@@ -94,9 +94,9 @@ told-spec =
     enum-told-6
     enum-told-7
     enum-told-8
-    enum-told-9
     enum-known-ending
     enum-known-ending-2
+    enum-known-ending-3
     returns
     returns-2
     returns-3

@@ -23,7 +23,7 @@ outcome-requires : tie.Need-outcome-requires
 outcome-requires c κs = search needs
 
 returns : tie.Need-returns
-returns c = judge-so _ _ _ _ _ _ _ (c .before .before .refusal-of .ensures) (slice-aggregate-outcome (c .before)) (c .before .before .before .before .put-judgement .ensures) (c .outcome .ensures)
+returns c = judge-so _ _ _ _ _ _ _ _ (c .before .before .refusal-of .ensures) (slice-aggregate-outcome (c .before)) (c .before .before .before .before .put-judgement .ensures) (c .outcome .ensures)
 
 pub judge-outcome-spec : {M : Type 1} → statement M
 judge-outcome-spec =

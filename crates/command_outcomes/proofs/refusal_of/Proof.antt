@@ -4,10 +4,10 @@ use Rattle.command_outcomes.proofs.refusal_of.Statement.{statement}
 use Rattle.command_outcomes.proofs.refusal_of.Tie as tie
 
 returns : tie.Need-returns
-returns c = refused-verdicts (c .before .args .number) (c .before .args .place) (c .if1 .taken)
+returns c = refused-verdicts (c .before .args .number) (c .before .args .place) (c .before .args .sets) (c .if1 .taken)
 
 returns-2 : tie.Need-returns-2
-returns-2 c = refused-so (c .before .args .number) (c .before .args .place) (c .if1 .left)
+returns-2 c = refused-so (c .before .args .number) (c .before .args .place) (c .before .args .sets) (c .if1 .left)
 
 pub refusal-of-spec : {M : Type 1} → statement M
 refusal-of-spec = tie.close (tie.spec returns returns-2)

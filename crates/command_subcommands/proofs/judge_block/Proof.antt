@@ -15,6 +15,9 @@ read-verdicts-requires c κs = search needs
 judge-requires : tie.Need-judge-requires
 judge-requires c κs = search needs
 
+sets-requires : tie.Need-sets-requires
+sets-requires c κs = search needs
+
 judge-outcome-requires : tie.Need-judge-outcome-requires
 judge-outcome-requires c κs = search needs
 
@@ -23,10 +26,16 @@ same-length c = search needs
 
 returns : tie.Need-returns
 returns c =
-    let told = (c .before .judge .ensures) ∙ ap (λ (d : List ℕ). answerOf (judge (c .before .before .before .before .before .before .before .before .before .args .block .now) d)) (c .before .before .before .before .before .read-verdicts .ensures) in
-    (judge-so _ _ _ told (c .judge-outcome .ensures), c .before .before .before .before .before .read-verdicts .ensures)
+    let told = (c .before .before .judge .ensures) ∙ ap (λ (d : List ℕ). answerOf (judge (c .before .before .before .before .before .before .before .before .before .before .args .block .now) d)) (c .before .before .before .before .before .before .read-verdicts .ensures) in
+    (judge-so _ _ _ _ _ told (c .before .sets .ensures) (c .judge-outcome .ensures), c .before .before .before .before .before .before .read-verdicts .ensures)
 
 pub judge-block-spec : {M : Type 1} → statement M
 judge-block-spec =
     tie.close
-    (tie.spec read-verdicts-requires judge-requires judge-outcome-requires same-length returns)
+    (tie.spec
+    read-verdicts-requires
+    judge-requires
+    sets-requires
+    judge-outcome-requires
+    same-length
+    returns)

@@ -1,5 +1,5 @@
 -- `command_words::asked` meets its contract: each test in turn is a case of the definition.
-use Rattle.command_rules.proofs.Lines.{asked-strip, asked-report, asked-explain, asked-judge, asked-neither, asked-other, asked-write, asked-unlisted}
+use Rattle.command_rules.proofs.Lines.{asked-strip, asked-report, asked-explain, asked-judge, asked-check, asked-neither, asked-other, asked-write, asked-unlisted}
 use borrow.Author.Needs.{needs}
 use Rattle.command_words.proofs.asked.Statement.{statement}
 use Rattle.command_words.proofs.asked.Tie as tie
@@ -43,24 +43,34 @@ returns-4 : tie.Need-returns-4
 returns-4 c =
     asked-judge (c .before .before .before .before .before .before .before .before .before .before .before .before .before .before .args .count) (c .before .before .before .before .before .before .before .before .before .before .before .before .before .before .args .word .now) (c .before .before .before .before .before .before .before .before .before .before .before .before .if1 .taken) _ (c .before .before .before .before .before .before .before .before .before .before .is-same .ensures) (c .before .before .before .before .before .before .before .before .before .if2 .left) _ (c .before .before .before .before .before .before .before .is-same2 .ensures) (c .before .before .before .before .before .before .if3 .left) _ (c .before .before .before .before .is-same3 .ensures) (c .before .before .before .if4 .left) _ (c .before .is-same4 .ensures) (c .if5 .taken)
 
-returns-5 : tie.Need-returns-5
-returns-5 c =
-    asked-neither (c .before .before .before .before .before .before .before .before .before .before .before .before .before .before .args .count) (c .before .before .before .before .before .before .before .before .before .before .before .before .before .before .args .word .now) (c .before .before .before .before .before .before .before .before .before .before .before .before .if1 .taken) _ (c .before .before .before .before .before .before .before .before .before .before .is-same .ensures) (c .before .before .before .before .before .before .before .before .before .if2 .left) _ (c .before .before .before .before .before .before .before .is-same2 .ensures) (c .before .before .before .before .before .before .if3 .left) _ (c .before .before .before .before .is-same3 .ensures) (c .before .before .before .if4 .left) _ (c .before .is-same4 .ensures) (c .if5 .left)
-
 slice-aggregate-is-same-5 : tie.Need-slice-aggregate-is-same-5
 slice-aggregate-is-same-5 c = search needs
 
 is-same-requires-5 : tie.Need-is-same-requires-5
 is-same-requires-5 c κs = search needs
 
+returns-5 : tie.Need-returns-5
+returns-5 c =
+    asked-check (c .before .before .before .before .before .before .before .before .before .before .before .before .before .before .before .before .before .args .count) (c .before .before .before .before .before .before .before .before .before .before .before .before .before .before .before .before .before .args .word .now) (c .before .before .before .before .before .before .before .before .before .before .before .before .before .before .before .if1 .taken) _ (c .before .before .before .before .before .before .before .before .before .before .before .before .before .is-same .ensures) (c .before .before .before .before .before .before .before .before .before .before .before .before .if2 .left) _ (c .before .before .before .before .before .before .before .before .before .before .is-same2 .ensures) (c .before .before .before .before .before .before .before .before .before .if3 .left) _ (c .before .before .before .before .before .before .before .is-same3 .ensures) (c .before .before .before .before .before .before .if4 .left) _ (c .before .before .before .before .is-same4 .ensures) (c .before .before .before .if5 .left) _ (c .before .is-same5 .ensures) (c .if6 .taken)
+
 returns-6 : tie.Need-returns-6
-returns-6 c = asked-write (c .before .before .before .before .before .before .args .count) (c .before .before .before .before .before .before .args .word .now) (c .before .before .before .before .if1 .left) (c .before .before .before .if6 .taken) _ (c .before .is-same5 .ensures) (c .if7 .taken)
+returns-6 c =
+    asked-neither (c .before .before .before .before .before .before .before .before .before .before .before .before .before .before .before .before .before .args .count) (c .before .before .before .before .before .before .before .before .before .before .before .before .before .before .before .before .before .args .word .now) (c .before .before .before .before .before .before .before .before .before .before .before .before .before .before .before .if1 .taken) _ (c .before .before .before .before .before .before .before .before .before .before .before .before .before .is-same .ensures) (c .before .before .before .before .before .before .before .before .before .before .before .before .if2 .left) _ (c .before .before .before .before .before .before .before .before .before .before .is-same2 .ensures) (c .before .before .before .before .before .before .before .before .before .if3 .left) _ (c .before .before .before .before .before .before .before .is-same3 .ensures) (c .before .before .before .before .before .before .if4 .left) _ (c .before .before .before .before .is-same4 .ensures) (c .before .before .before .if5 .left) _ (c .before .is-same5 .ensures) (c .if6 .left)
+
+slice-aggregate-is-same-6 : tie.Need-slice-aggregate-is-same-6
+slice-aggregate-is-same-6 c = search needs
+
+is-same-requires-6 : tie.Need-is-same-requires-6
+is-same-requires-6 c κs = search needs
 
 returns-7 : tie.Need-returns-7
-returns-7 c = asked-unlisted (c .before .before .before .before .before .before .args .count) (c .before .before .before .before .before .before .args .word .now) (c .before .before .before .before .if1 .left) (c .before .before .before .if6 .taken) _ (c .before .is-same5 .ensures) (c .if7 .left)
+returns-7 c = asked-write (c .before .before .before .before .before .before .args .count) (c .before .before .before .before .before .before .args .word .now) (c .before .before .before .before .if1 .left) (c .before .before .before .if7 .taken) _ (c .before .is-same6 .ensures) (c .if8 .taken)
 
 returns-8 : tie.Need-returns-8
-returns-8 c = asked-other (c .before .before .before .args .count) (c .before .before .before .args .word .now) (c .before .if1 .left) (c .if6 .left)
+returns-8 c = asked-unlisted (c .before .before .before .before .before .before .args .count) (c .before .before .before .before .before .before .args .word .now) (c .before .before .before .before .if1 .left) (c .before .before .before .if7 .taken) _ (c .before .is-same6 .ensures) (c .if8 .left)
+
+returns-9 : tie.Need-returns-9
+returns-9 c = asked-other (c .before .before .before .args .count) (c .before .before .before .args .word .now) (c .before .if1 .left) (c .if7 .left)
 
 pub asked-spec : {M : Type 1} → statement M
 asked-spec =
@@ -78,9 +88,12 @@ asked-spec =
     slice-aggregate-is-same-4
     is-same-requires-4
     returns-4
-    returns-5
     slice-aggregate-is-same-5
     is-same-requires-5
+    returns-5
     returns-6
+    slice-aggregate-is-same-6
+    is-same-requires-6
     returns-7
-    returns-8)
+    returns-8
+    returns-9)
