@@ -117,10 +117,10 @@ abbrev pub AddendPut : Addend → List ℕ → ℕ → List ℕ → ℕ → Type
 AddendPut a old to new next = (next ≡ placeAfter a to) × (new ≡ bufferAfter a old to)
 
 -- what is told of a body is what is told of it in the largest room
-module _ (s : List ℕ) (m : code.Reported) (detail : Detail) (n : ℕ) (o : Own) (old : List ℕ) (to : ℕ) (mid : List ℕ) (at : ℕ) (low : List ℕ) (end : ℕ) (new : List ℕ) (next : ℕ) where
+module _ (s : List ℕ) (m : code.Reported) (detail : Detail) (n : ℕ) (o : Own) (old : List ℕ) (to : ℕ) (mid : List ℕ) (at : ℕ) (said : List ℕ) (end : ℕ) (new : List ℕ) (next : ℕ) where
   lines-put : m ≡ body.answerOf (report s cap) → length old < 2 ^ 64 → Clipped old to (fieldLine n o (m .number) (m .ignored)) mid at
-      → (end ≡ min (at + length (report s cap .written)) cap) × (low ≡ ifRoom mid at (report s cap .written))
-      → Clipped low end (detailLine detail (m .number) (identifier s)) new next → AddendPut (bodyAddend detail n o s) old to new next
+      → (end ≡ min (at + length (report s cap .written)) cap) × (said ≡ ifRoom mid at (report s cap .written))
+      → Clipped said end (detailLine detail (m .number) (identifier s)) new next → AddendPut (bodyAddend detail n o s) old to new next
   unfolding bodyAddend bufferAfter
   lines-put e h v w u =
       let line = fieldLine n o (report s cap .number) (report s cap .ignored) in
@@ -128,12 +128,12 @@ module _ (s : List ℕ) (m : code.Reported) (detail : Detail) (n : ℕ) (o : Own
       let v′ : Clipped old to line mid at = rw e at v in
       let p : ifRoom mid at text ≡ ifRoom mid (to + length line) text = room-past mid (to + length line) at text (omega (arith, clipped-long v′)) (v′ .place) in
       let id = detailLine detail (report s cap .number) (identifier s) in
-      let u′ : Clipped low end id new next = rw e at u in
+      let u′ : Clipped said end id new next = rw e at u in
       let k : end ≡ min (to + (length line + length text)) cap = omega (arith, v′ .place, w .0) in
-      let long : length low ≤ cap = omega (arith, ap length (w .1), room-long mid at text, clipped-long v′, h) in
-      let q : low ≡ ifRoom (sets old to line) (to + length line) text = w .1 ∙ (p ∙ ap (λ (l : List ℕ). ifRoom l (to + length line) text) (v′ .bytes)) in (
+      let long : length said ≤ cap = omega (arith, ap length (w .1), room-long mid at text, clipped-long v′, h) in
+      let q : said ≡ ifRoom (sets old to line) (to + length line) text = w .1 ∙ (p ∙ ap (λ (l : List ℕ). ifRoom l (to + length line) text) (v′ .bytes)) in (
         omega (arith, k, u′ .place),
-        u′ .bytes ∙ (sets-past low (to + (length line + length text)) end id long k ∙ ap (λ (l : List ℕ). sets l (to + (length line + length text)) id) q),
+        u′ .bytes ∙ (sets-past said (to + (length line + length text)) end id long k ∙ ap (λ (l : List ℕ). sets l (to + (length line + length text)) id) q),
       )
 
 -- measured, and written in place: without what a detail adds
@@ -172,11 +172,11 @@ module _ (s first text : List ℕ) (m : code.Reported)
   text-is : take (m .written) text ≡ report s cap .written
   text-is = rw (e .1, told-is, size-is) (take-append-seam (report s cap .written) (drop (length (report s cap .written)) first))
 
-  pub short-put : (detail : Detail) (n : ℕ) (o : Own) (old : List ℕ) (to : ℕ) (mid : List ℕ) (at : ℕ) (low : List ℕ) (end : ℕ) (new : List ℕ) (next : ℕ)
+  pub short-put : (detail : Detail) (n : ℕ) (o : Own) (old : List ℕ) (to : ℕ) (mid : List ℕ) (at : ℕ) (said : List ℕ) (end : ℕ) (new : List ℕ) (next : ℕ)
       → length old < 2 ^ 64 → Clipped old to (fieldLine n o (m .number) (m .ignored)) mid at
-      → (end ≡ min (at + length (take (m .written) text)) cap) × (low ≡ ifRoom mid at (take (m .written) text))
-      → Clipped low end (detailLine detail (m .number) (identifier s)) new next → AddendPut (bodyAddend detail n o s) old to new next
-  short-put detail n o old to mid at low end new next h v w u = lines-put s m detail n o old to mid at low end new next short-is h v (rw text-is at w) u
+      → (end ≡ min (at + length (take (m .written) text)) cap) × (said ≡ ifRoom mid at (take (m .written) text))
+      → Clipped said end (detailLine detail (m .number) (identifier s)) new next → AddendPut (bodyAddend detail n o s) old to new next
+  short-put detail n o old to mid at said end new next h v w u = lines-put s m detail n o old to mid at said end new next short-is h v (rw text-is at w) u
 
 -- a report that doesn't fit that buffer is of a body that can be read: no detail adds anything
 module _ (s : List ℕ) (room : ℕ) (m : code.Reported) (e : m ≡ body.answerOf (report s room)) (six : m .number ≡ 6) where
