@@ -25,7 +25,7 @@ same-length : tie.Need-same-length
 same-length c = search needs
 
 returns-2 : tie.Need-returns-2
-returns-2 c = line-found _ _ _ _ _ _ (sym (c .before .before .before .before .before .start .given .1) ∙ c .before .before .before .before .before .before .before .identify .ensures) _ _ (c .before .before .put-id-from .ensures)
+returns-2 c = line-found _ _ _ _ _ _ (sym (c .before .before .before .before .before .start .given .1) ∙ c .before .before .before .before .before .before .before .identify .ensures) (c .before .before .put-id-from .last .1 .1 .1 .1 .0) (c .before .before .put-id-from .result) (c .before .before .put-id-from .ensures)
 
 pub put-identifier-spec : {M : Type 1} → statement M
 put-identifier-spec =
