@@ -23,7 +23,7 @@ same-length-2 : tie.Need-same-length-2
 same-length-2 c = search needs
 
 returns-2 : tie.Need-returns-2
-returns-2 c = search notices-put
+returns-2 c = notices-put (c .before .before .before .before .before .before .before .args .list .now) _ _ _ _ (c .before .before .before .before .if1 .left) (c .before .before .put-lines .ensures)
 
 pub put-notices-spec : {M : Type 1} → statement M
 put-notices-spec =

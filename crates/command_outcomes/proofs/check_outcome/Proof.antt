@@ -1,4 +1,9 @@
 -- `command_outcomes::check_outcome` meets its contract: the refusal of a bad list, or the outcome of the whole text.
+use mathlib.Core.List.{_++_}
+use Rattle.base_sequences.specs.Spans.{span}
+use Rattle.base_readers.specs.Lines.{linesOf}
+use Rattle.command_list_rules.specs.declared.Said.the-variants.{Compared}
+use Rattle.command_list_rules.specs.Notices.{linesFrom, notices}
 use Rattle.command_outcomes.proofs.Words.{check-bad, check-good}
 use borrow.Author.Needs.{needs}
 use Rattle.command_outcomes.proofs.check_outcome.Statement.{statement}
@@ -8,7 +13,8 @@ enum-known-d : tie.Need-enum-known-d
 enum-known-d c = search needs
 
 returns : tie.Need-returns
-returns c = search check-bad
+returns c =
+    check-bad _ _ (linesFrom Compared 0 (linesOf (span (c .before .before .before .before .before .args .spelled .now) 0 (c .before .before .before .before .before .args .n))) ++ notices (c .before .before .before .before .before .args .list .now)) (c .before .d .given .1)
 
 enum-told : tie.Need-enum-told
 enum-told c = search needs

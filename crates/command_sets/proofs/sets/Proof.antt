@@ -20,13 +20,13 @@ array-share-prefix-zeros : tie.Need-array-share-prefix-zeros Inv-loop μ-loop
 array-share-prefix-zeros c = omega arith
 
 slice-aggregate-judge : tie.Need-slice-aggregate-judge Inv-loop μ-loop
-slice-aggregate-judge c = search zeros-long
+slice-aggregate-judge c = zeros-long _ _ _ (c .before .before .loop .inv) (omega arith)
 
 judge-requires : tie.Need-judge-requires Inv-loop μ-loop
 judge-requires c κs = search needs
 
 returns : tie.Need-returns Inv-loop μ-loop
-returns c = search from-told
+returns c = from-told _ _ _ (c .before .before .before .before .before .loop .inv) (omega arith) _ (c .before .before .judge .ensures) (c .if1 .taken)
 
 add-n : tie.Need-add-n Inv-loop μ-loop
 add-n c = omega arith
@@ -35,10 +35,10 @@ loop-less : tie.Need-loop-less Inv-loop μ-loop
 loop-less c = omega arith
 
 loop-again : tie.Need-loop-again Inv-loop μ-loop
-loop-again c = search from-more
+loop-again c = from-more _ _ _ (c .before .before .before .before .before .loop .inv) (omega arith) _ (c .before .before .judge .ensures) (c .if1 .left)
 
 returns-2 : tie.Need-returns-2 Inv-loop μ-loop
-returns-2 c = search from-done
+returns-2 c = from-done _ _ _ (c .before .loop .inv) (omega arith)
 
 pub sets-spec : {M : Type 1} → statement M
 sets-spec =

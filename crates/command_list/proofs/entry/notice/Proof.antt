@@ -20,7 +20,7 @@ bare-end-requires : tie.Need-bare-end-requires
 bare-end-requires c κs = search needs
 
 returns-3 : tie.Need-returns-3
-returns-3 c = search notice-unbare
+returns-3 c = notice-unbare (c .before .before .before .before .before .before .before .args .e .now) _ (c .before .before .before .before .before .is-marked .ensures) (c .before .before .before .before .if1 .left) _ (c .before .before .before .is-at .ensures) (c .before .before .if2 .left) _ (c .before .bare-end .ensures) (c .if3 .taken)
 
 until-requires : tie.Need-until-requires
 until-requires c κs = search needs

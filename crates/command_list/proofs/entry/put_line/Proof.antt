@@ -44,7 +44,7 @@ same-length-3 : tie.Need-same-length-3
 same-length-3 c = search needs
 
 returns-3 : tie.Need-returns-3
-returns-3 c = search line-noted
+returns-3 c = line-noted _ (c .before .before .before .before .before .before .before .before .before .args .n) (c .before .before .before .before .before .before .before .before .before .args .t .now) _ _ _ _ (c .before .before .before .before .before .enum-told3 .given .1) (c .before .before .put-notice2 .ensures)
 
 pub put-line-spec : {M : Type 1} → statement M
 put-line-spec =
