@@ -17,7 +17,7 @@ same-length : tie.Need-same-length
 same-length c = search needs
 
 returns : tie.Need-returns
-returns c = search whose-put
+returns c = whose-put _ _ (c .before .before .before .before .whose-place .ensures) _ _ _ _ (c .before .before .put-phrase .ensures)
 
 pub put-whose-spec : {M : Type 1} → statement M
 put-whose-spec =

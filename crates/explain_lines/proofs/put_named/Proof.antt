@@ -1,4 +1,5 @@
 -- `explain_lines::put_named` meets its contract: the label, and then the column.
+use native.Mathlib.Omega.{arith}
 use Rattle.explain_lines.proofs.Words.{named-put}
 use borrow.Author.Needs.{needs}
 use Rattle.explain_lines.proofs.put_named.Statement.{statement}
@@ -20,7 +21,7 @@ same-length : tie.Need-same-length
 same-length c = search needs
 
 returns : tie.Need-returns
-returns c = search named-put
+returns c = named-put (c .before .before .before .before .before .before .before .before .before .before .before .before .args .n) _ _ _ (omega arith) _ _ (c .before .before .before .before .before .before .before .put-phrase .ensures) _ (c .before .before .before .before .column .ensures) _ _ (c .before .before .put-text .ensures)
 
 pub put-named-spec : {M : Type 1} → statement M
 put-named-spec =
