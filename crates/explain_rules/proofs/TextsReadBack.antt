@@ -3,7 +3,7 @@
 use Prim.Native.Nat.{ℕ, suc, _+_, _*_, _/_, _%_, _<_}
 use native.Mathlib.Omega.{arith}
 use mathlib.Core.Path.{_≡_, refl, sym, ap, _∙_}
-use mathlib.Core.Bool.{Bool, true, false, not, _&&_, _||_}
+use mathlib.Core.Bool.{Bool, true, false, cond, not, _&&_, _||_}
 use mathlib.Core.List.{List, [], _∷_, _++_, append-assoc}
 use lib.Dec.{eqb, ltb}
 use lib.ListN.{take, drop}
@@ -17,6 +17,9 @@ use Rattle.report_rules.specs.Report.{hexDigit, plain, escape}
 use Rattle.write_rules.specs.Entries.{each, isHex, hexValue}
 use Rattle.write_rules.specs.Promise.{Bytes}
 use Rattle.explain_rules.specs.Texts.{isCode, codeByte, codeMore, decodedPast, decoded, inWord, isWord, quotedByte, quotedBytes, shownText, ReadText, quotedRead, quotedMore, inFront, readQuoted, readShown}
+use Rattle.explain_rules.specs.declared.Line.{Line}
+use Rattle.explain_rules.specs.declared.Line.the-variants.{Field, Identifier, Version, NoResult, Method, Reason, Property, Other}
+use Rattle.explain_rules.specs.Explained.{behind, kindOfLine, shown, words, goesOn, ended, linesWords}
 use Rattle.explain_rules.proofs.Texts.{high-hex, low-hex, digits-value, quoted-mark, quoted-itself, quoted-hex, word-each, shown-word, shown-quoted}
 use Rattle.explain_rules.proofs.Unfolding.{opened}
 
@@ -145,6 +148,31 @@ shown-once t u h k e =
     let b = shown-back u [] k refl in
     ap (λ (r : ReadText). r .text) (sym a ∙ (ap (λ (l : List ℕ). readShown (l ++ [])) e ∙ b))
 
+-- ==== also in the line where it stands
+
+-- what is said of a line of any kind, behind the end of what was said before it
+ends-of : (k : Line) (b rest : List ℕ) → starts inWord (cond (goesOn k) [] (10 ∷ []) ++ (words k b ++ rest)) ≡ false
+unfolding opened starts
+ends-of Field b rest = refl
+ends-of Identifier b rest = refl
+ends-of Version b rest = refl
+ends-of NoResult b rest = refl
+ends-of Method b rest = refl
+ends-of Reason b rest = refl
+ends-of Property b rest = refl
+ends-of Other b rest = refl
+
+-- no byte of a word stands behind what is said of a line
+pub line-ends : (ls : List (List ℕ)) → starts inWord (ended ls ++ linesWords ls) ≡ false
+unfolding opened starts
+line-ends [] = refl
+line-ends (l ∷ ls) = ends-of (kindOfLine l) (behind l) (ended ls ++ linesWords ls)
+
+-- so the last text of a line, which an identifier, a reason and a value are, is read back there, whatever lines stand behind it
+pub last-text-back : (t : List ℕ) → Bytes t → (ls : List (List ℕ))
+    → readShown (shown (escape t) ++ (ended ls ++ linesWords ls)) ≡ record { text = t; rest = ended ls ++ linesWords ls }
+last-text-back t h ls = field-text-back t (ended ls ++ linesWords ls) h (line-ends ls)
+
 -- ==== an instance of each: a value that ends its quotes and goes on as if it were us, with a byte that no terminal is shown, and behind it the next property
 
 abbrev value : List ℕ
@@ -165,3 +193,7 @@ field-text-instance = field-text-back value (bytes ", header.d: example.org") re
 once-instance : value ≡ value
 unfolding each
 once-instance = shown-once value value refl refl refl
+
+last-text-instance : readShown (shown (escape value) ++ (ended (bytes "p\theader\td\tt\texample.org" ∷ []) ++ linesWords (bytes "p\theader\td\tt\texample.org" ∷ []))) ≡ record { text = value; rest = bytes ", header.d: example.org\n" }
+unfolding each opened
+last-text-instance = last-text-back value refl (bytes "p\theader\td\tt\texample.org" ∷ [])
