@@ -1,5 +1,5 @@
 -- Readers. A reader says how many bytes of the front of a list it takes; 0 is nothing, for no reader takes an empty thing.
--- A byte is asked for by `getD xs k 0`: past the end that is 0, which is in no class and is no mark, so nothing asks for a length.
+-- A byte is asked for by `getD xs k 0`: past the end that is 0, which is in no class and is no separator, so nothing asks for a length.
 use Prim.Native.Nat.{ℕ, zero, suc, _+_}
 use mathlib.Core.Bool.{Bool, true, false, cond}
 use mathlib.Core.List.{List, [], _∷_}
