@@ -320,7 +320,7 @@ fn judge_complete(
 pub fn judge(s: &[u8], verdicts: &[u8]) -> Judged
     ensures { λ r. ⌜ r ≡ answerOf (judge (now (s .entry)) (now (verdicts .entry))) ⌝ }
 {
-    if lexis_space::too_long(s) {
+    if lexis_limits::too_long(s) {
         return arc_answers::blank(Number::TOO_LONG, 0);
     }
     let mut places = [[0u16; 3]; Instance::LAST];

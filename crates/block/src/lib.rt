@@ -4,7 +4,7 @@
 //   2  a CR without LF, an LF without CR, or a last line without CRLF: that byte; for an unfinished line the block length
 //   3  an empty line, a first line starting with space or tab, or a field that lacks name or colon: the start of the line
 //   4  a 513th field: its start
-// A block of more than 65,536 bytes is the caller's to refuse (`lexis_space::too_long`).
+// A block of more than 65,536 bytes is the caller's to refuse (`lexis_limits::too_long`).
 use base_answers::Number;
 use lexis_rules::Class;
 ghost use mathlib.Core.Path.{_≡_};

@@ -13,7 +13,7 @@ ghost use Rattle.block_walk_rules.specs.Steps.{stepFrom};
 pub fn step_from(block: &[u8], from: usize) -> Step
     ensures { λ r. ⌜ r ≡ stepFrom (now (block .entry)) from ⌝ }
 {
-    if lexis_space::too_long(block) {
+    if lexis_limits::too_long(block) {
         return Step::Last {
             number: Number::TOO_LONG,
             place: 0,

@@ -3,12 +3,13 @@
 // They stand in a crate of their own because an array that a call returns costs the check of a program nothing, and one of its own costs by
 // its length.
 use block::Walk;
+use lexis_limits::Size;
 use ownlist_check::Entries;
 ghost use mathlib.Core.Path.{_≡_};
 ghost use lib.ListN.{length, replicate};
 
 // The most bytes of a block that are read: one more than a block may have. What is kept of one, and a body, fit too.
-pub const BLOCK: usize = lexis_space::BYTES + 1;
+pub const BLOCK: usize = Size::MOST + 1;
 
 // The most bytes of a list that are read: all entries that a list may have, each with its LF, and one more that is too long. What is behind
 // these can't change which entry is the first bad one.
@@ -16,12 +17,12 @@ pub const LIST: usize = (Entries::ENTRIES + 1) * (Entries::LONGEST + 1);
 
 // A room that the reports of all fields of a block fit, and one byte more: for each field its line of less than 60 bytes, and four. So do the lines of the
 // identifiers of fields that answer 9, which have no report (`detailed-size` in blockreport_laws/proofs/Sizes.antt).
-pub const REPORTS: usize = 3 * lexis_space::BYTES + 64 * Walk::FIELDS + 1;
+pub const REPORTS: usize = 3 * Size::MOST + 64 * Walk::FIELDS + 1;
 
 // The most bytes of report lines that are read, and one more to tell that there are more. A body that may be written has lines of at most
 // three times its bytes and four more; whether longer ones are refused with 11 or with 1 can only be told from all of them, so what isn't read
 // whole gets a refusal of its own.
-pub const LINES: usize = 4 * lexis_space::BYTES + 1;
+pub const LINES: usize = 4 * Size::MOST + 1;
 
 // A room for the reports of a block in words (`explained-long` in explain_rules/proofs/PlainAndShort.antt). The lines have at most 229,376 bytes. Each is shown with two
 // bytes at most, but for a tab and an LF, for which no more than four are counted. Every line but that of a header version stands for nine bytes of the block

@@ -1,26 +1,14 @@
-// The space of a field body, with folds and comments, and whether a body or a block is too long.
+// The space of a field body, with folds and comments.
 //
 // A reader is handed a slice and a place, any place, also past the end. It answers the place after the piece that starts there, and
 // the place itself where there is none. Nothing is refused here: what it means that a piece is missing is the caller's to say.
 use lexis_rules::Class;
 ghost use mathlib.Core.Path.{_≡_};
 ghost use Prim.Native.Nat.{_+_};
-ghost use lib.Dec.{ltb};
-ghost use lib.ListN.{drop, getD, length};
+ghost use lib.ListN.{drop, getD};
 ghost use Rattle.base_readers.specs.Readers.{run};
-ghost use Rattle.lexis_rules.specs.Limits.{byteLimit};
 ghost use Rattle.lexis_rules.specs.Bytes.{inClass};
 ghost use Rattle.lexis_rules.specs.Pieces.{space};
-
-// The most bytes that a block or a field body may have.
-pub const BYTES: usize = 65536;
-
-// Whether a block or a field body has more bytes than the limit: answer 1.
-pub fn too_long(s: &[u8]) -> bool
-    ensures { λ r. ⌜ r ≡ ltb byteLimit (length (now (s .entry))) ⌝ }
-{
-    BYTES < s.len()
-}
 
 // Whether a byte is a space or a tab.
 fn is_blank(b: u8) -> bool

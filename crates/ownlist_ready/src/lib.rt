@@ -21,7 +21,7 @@ pub enum Ready {
 pub fn readiness(s: &[u8], list: &[u8]) -> Ready
     ensures { λ r. ⌜ r ≡ readyOf (now (s .entry)) (now (list .entry)) ⌝ }
 {
-    if lexis_space::too_long(s) {
+    if lexis_limits::too_long(s) {
         return Ready::Refused {
             number: Number::TOO_LONG,
             place: 0,

@@ -168,7 +168,7 @@ pub fn report(body: &[u8], out: &mut [u8]) -> Reported
     ensures { λ r. ⌜ r ≡ answerOf (report (now (body .entry)) (length (now (out .entry)))) ⌝ }
     ensures { λ _. ⌜ now (out .exit) ≡ leaves (report (now (body .entry)) (length (now (out .entry)))) (now (out .entry)) ⌝ }
 {
-    if lexis_space::too_long(body) {
+    if lexis_limits::too_long(body) {
         return refuse(Number::TOO_LONG, 0);
     }
     let Identifier::Readable { start, end, quoted } = identifier::identify(body) else {
@@ -182,7 +182,7 @@ pub fn report(body: &[u8], out: &mut [u8]) -> Reported
 pub fn measure(body: &[u8]) -> Reported
     ensures { λ r. ⌜ r ≡ answerOf (report (now (body .entry)) cap) ⌝ }
 {
-    if lexis_space::too_long(body) {
+    if lexis_limits::too_long(body) {
         return refuse(Number::TOO_LONG, 0);
     }
     let Identifier::Readable { start, end, quoted } = identifier::identify(body) else {

@@ -176,7 +176,7 @@ fn list_within(seal: bool, s: &[u8], at: usize) -> Listed
 pub fn list_at(seal: bool, s: &[u8], at: usize) -> Listed
     ensures { λ r. ⌜ listedSaid r ≡ listedAt seal (now (s .entry)) at ⌝ }
 {
-    if lexis_space::too_long(s) {
+    if lexis_limits::too_long(s) {
         return Listed::Unreadable;
     }
     list_within(seal, s, at)

@@ -71,7 +71,7 @@ fn collect(s: &[u8], at: usize, table: &mut [u16]) -> Collected
 fn read_list(seal: bool, s: &[u8], at: usize, table: &mut [u16]) -> Attempt
     ensures { λ r. ⌜ AttemptIf (length (now (table .entry)) < length (tagsAt (now (s .entry)) at)) seal (now (s .entry)) at r ⌝ }
 {
-    if lexis_space::too_long(s) {
+    if lexis_limits::too_long(s) {
         return Attempt::Unreadable;
     }
     match collect(s, at, table) {

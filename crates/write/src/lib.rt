@@ -9,6 +9,7 @@
 //   6   `out` is too short: the bytes needed
 // tried in this order. A refusal writes nothing and returns a zero count; bytes past those written stay unchanged.
 use base_answers::Number;
+use lexis_limits::Size;
 use text_first_pass::Copy;
 use write_rules::Written;
 ghost use mathlib.Core.Path.{_≡_};
@@ -16,9 +17,6 @@ ghost use lib.ListN.{length};
 ghost use Rattle.write_rules.specs.Compose.{entries, compose};
 ghost use Rattle.write.specs.Internal.{onlyCode, nextCode, finalCode, LinesPut};
 ghost use Rattle.write_rules.specs.Answers.{answerOf, leaves};
-
-// The most bytes that a body may have.
-const LIMIT: usize = 65536;
 
 // What stands before a line: nothing; the `id` line; the line `none`; an `m` line; an `r` or `p` line. The last is said of a line that can't
 // stand there.
@@ -151,7 +149,7 @@ pub fn write(lines: &[u8], out: &mut [u8]) -> Written
             written: 0,
         };
     }
-    if first.next > LIMIT {
+    if first.next > Size::MOST {
         return Written {
             number: Number::TOO_LONG,
             place: 0,
