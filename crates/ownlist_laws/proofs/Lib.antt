@@ -4,5 +4,7 @@ pub mod OwnLists
 pub mod Ends
 pub mod AsCompared
 pub mod Utf8Bytes
+pub mod EncodedIsTaken
+pub mod TakenIsEncoded
 pub mod CallCases
 pub mod AnswersInOrder

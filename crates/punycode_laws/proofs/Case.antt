@@ -80,7 +80,7 @@ scalar-case x = go (cased x)
     go (capital a b e) = rw e (sym (scalar-low (x + 32) (omega arith)) ∙ scalar-low x (omega arith))
     go (other n e) = rw e
 
-high-case : (x : ℕ) → 128 ≤ x → lower x ≡ x
+pub high-case : (x : ℕ) → 128 ≤ x → lower x ≡ x
 high-case x h = go (cased x)
   where
     go : Cased x → lower x ≡ x
@@ -246,7 +246,7 @@ decoded-case xs ys e = rw (← e) (kept-case (punycode xs) (punycode (map lower 
 
 -- ==== UTF-8
 
-utf8-case : (x : ℕ) → map lower (utf8 x) ≡ utf8 (lower x)
+pub utf8-case : (x : ℕ) → map lower (utf8 x) ≡ utf8 (lower x)
 unfolding utf8
 utf8-case x = first (ltb x 128) refl
   where
@@ -262,7 +262,7 @@ utf8-case x = first (ltb x 128) refl
     first true e = let a : utf8 x ≡ x ∷ [] = rw (utf8, e) in let b : utf8 (lower x) ≡ lower x ∷ [] = rw (utf8, basic-case x, e) in rw (a, b)
     first false e = let h : 128 ≤ x = ltb-false _ _ e in rw (high-case x h) (second h (ltb x 2048) refl)
 
-utf8s-case : (u : List ℕ) → map lower (utf8s u) ≡ utf8s (map lower u)
+pub utf8s-case : (u : List ℕ) → map lower (utf8s u) ≡ utf8s (map lower u)
 unfolding utf8s
 utf8s-case [] = refl
 utf8s-case (x ∷ u) = map-join (utf8 x) (utf8s u) ∙ rw (utf8-case x, utf8s-case u)

@@ -4,6 +4,7 @@ pub mod Digits
 pub mod Adapting
 pub mod Decoding
 pub mod Encoding
+pub mod BytesTellCodePoints
 pub mod Basics
 pub mod Spelling
 pub mod Hyphens
