@@ -1,2 +1,4 @@
 pub mod Parts
 pub mod Equality
+pub mod EqualExactly
+pub mod StaysReadable

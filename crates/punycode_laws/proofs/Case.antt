@@ -34,7 +34,7 @@ cased x = go (within 65 90 x) refl
     go false e = other (λ a b. Rattle.base_sequences.proofs.Booleans.both (within 65 90 x) e (unfold within in rw (le-leb 65 x a, le-leb x 90 b))) (rw e)
 
 -- a mark that is no letter
-eqb-case : (c x : ℕ) → c < 65 → eqb (lower x) c ≡ eqb x c
+pub eqb-case : (c x : ℕ) → c < 65 → eqb (lower x) c ≡ eqb x c
 eqb-case c x h = go (cased x)
   where
     go : Cased x → eqb (lower x) c ≡ eqb x c
@@ -66,7 +66,7 @@ digit-case x = go (cased x)
         rw (e, le-leb 97 (x + 32) (omega arith), le-leb (x + 32) 122 (omega arith), lt-leb 97 x (omega arith), le-leb 65 x a, le-leb x 90 b, d)
     go (other n e) = rw e
 
-basic-case : (x : ℕ) → ltb (lower x) 128 ≡ ltb x 128
+pub basic-case : (x : ℕ) → ltb (lower x) 128 ≡ ltb x 128
 basic-case x = go (cased x)
   where
     go : Cased x → ltb (lower x) 128 ≡ ltb x 128

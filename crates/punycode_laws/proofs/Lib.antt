@@ -12,3 +12,4 @@ pub mod Lengths
 pub mod Absent
 pub mod ALabels
 pub mod Case
+pub mod Utf8ButForCase

@@ -1,0 +1,128 @@
+-- 02, ticket [2]: what document 01's identifier rule read is read, with the same text and as many bytes: a token ended there by a delimiter or
+-- at the end, and so it ends there still. And no token but the identifier's holds bytes from 128 up.
+use Prim.Native.Nat.{ℕ, suc, _≤_, _<_}
+use native.Mathlib.Omega.{arith}
+use mathlib.Core.Path.{_≡_, refl, sym, ap, _∙_}
+use mathlib.Core.Bool.{Bool, true, false, not}
+use mathlib.Core.List.{List, [], _∷_}
+use lib.Dec.{eqb, leb, ltb}
+use lib.ListN.{getD, take, drop}
+use borrow.Author.Tests.{le-leb, lt-leb, lt-ltb, not-true}
+use Rattle.base_sequences.proofs.Booleans.{and-left, or-right, or-none}
+use Rattle.base_readers.specs.Texts.{bytes, within, oneOf, outside, follows}
+use Rattle.base_readers.specs.Readers.{Reader, run, choose}
+use Rattle.base_readers.specs.Parsers.{nothing, got, Parser, _>>=_, _>>_, give, ahead, text}
+use Rattle.base_readers.specs.Locality.{Follows}
+use Rattle.base_readers.proofs.Readers.{run-more}
+use Rattle.base_readers.proofs.Sequencing.{bind-got, bind-inv, ahead-inv, text-inv}
+use Rattle.base_readers.proofs.Texts.{all, one-in}
+use Rattle.lexis_rules.specs.declared.Class.the-variants.{Token, Delimiter}
+use Rattle.lexis_rules.specs.Bytes.{inClass}
+use Rattle.lexis_rules.specs.Pieces.{token, value}
+use Rattle.lexis_rules.specs.Words.{valueText, skip}
+use Rattle.punycode_laws.proofs.Digits.{within-inv}
+use Rattle.identifier_rules.specs.Identifier.{identifierByte, identifierValue, identifier}
+use Rattle.identifier_rules.proofs.Unfolding.{opened}
+
+-- ==== document 01's rule
+
+-- 01, Identifier and header version: Space, then a value. It is readable when that succeeds and the next thing is the end or one of space, tab,
+-- CR, "(" or ";"
+unfoldable pub plainIdentifier : Parser (List ℕ)
+plainIdentifier = do
+  skip
+  v ← text value
+  ahead (inClass Delimiter)
+  give (valueText v)
+
+-- ==== bytes
+
+pub token-low : (x : ℕ) → inClass Token x ≡ true → x < 128
+unfolding inClass
+token-low x h = let b = within-inv 33 126 x (and-left (within 33 126 x) (not (oneOf (bytes "()<>@,;:\\\"/[]?=") x)) h) .1 in omega (arith, b)
+
+-- what ends an identifier is in no identifier's token
+delimiter-out : (x : ℕ) → inClass Delimiter x ≡ true → identifierByte x ≡ false
+unfolding opened
+delimiter-out x h = not-true (identifierByte x) (one-in (bytes " \t\r(;") (outside identifierByte) refl x h)
+
+-- 02, ticket [2]: the identifier's token may hold the bytes of a token and those from 128 up
+pub identifier-byte-high : (x : ℕ) → 128 ≤ x → identifierByte x ≡ true
+unfolding identifierByte
+identifier-byte-high x h = or-right (inClass Token x) (leb 128 x) (le-leb 128 x h)
+
+pub identifier-byte-low : (x : ℕ) → x < 128 → identifierByte x ≡ inClass Token x
+unfolding identifierByte
+identifier-byte-low x h = rw (lt-leb 128 x h) (or-none (inClass Token x))
+
+-- and no other token holds one of these: every other is read by `token`
+pub token-all-low : (xs : List ℕ) → all (λ b. ltb b 128) (take (token xs) xs) ≡ true
+unfolding run
+token-all-low [] = refl
+token-all-low (x ∷ xs) = go (inClass Token x) refl (token-all-low xs)
+  where
+    go : (t : Bool) → inClass Token x ≡ t → all (λ b. ltb b 128) (take (token xs) xs) ≡ true → all (λ b. ltb b 128) (take (token (x ∷ xs)) (x ∷ xs)) ≡ true
+    go true e ih = rw (run, e, lt-ltb x 128 (token-low x e)) ih
+    go false e ih = rw (run, e)
+
+-- ==== what was read is read
+
+-- where a run of the one class ends at a delimiter or at the end, so does one of the other
+run-wider : (xs : List ℕ) → Follows (inClass Delimiter) (drop (run (inClass Token) xs) xs) → run identifierByte xs ≡ run (inClass Token) xs
+unfolding run
+run-wider [] f = refl
+run-wider (x ∷ xs) f = go (inClass Token x) refl (run-wider xs)
+  where
+    go : (t : Bool) → inClass Token x ≡ t → (Follows (inClass Delimiter) (drop (run (inClass Token) xs) xs) → run identifierByte xs ≡ run (inClass Token) xs)
+        → run identifierByte (x ∷ xs) ≡ run (inClass Token) (x ∷ xs)
+    go true e ih =
+        let a : run (inClass Token) (x ∷ xs) ≡ suc (run (inClass Token) xs) = run-more (inClass Token) x xs e in
+        let b : run identifierByte (x ∷ xs) ≡ suc (run identifierByte xs) = run-more identifierByte x xs (identifier-byte-low x (token-low x e) ∙ e) in
+        b ∙ (ap suc (ih (rw a at f)) ∙ sym a)
+    go false e ih =
+        let a : run (inClass Token) (x ∷ xs) ≡ 0 = rw (run, e) in
+        let d : Follows (inClass Delimiter) (x ∷ xs) = rw a at f in
+        let g : identifierByte x ≡ false = delimiter-out x (unfold follows in d) in
+        let b : run identifierByte (x ∷ xs) ≡ 0 = rw (run, g) in
+        b ∙ sym a
+
+value-wider : (xs : List ℕ) → Follows (inClass Delimiter) (drop (value xs) xs) → identifierValue xs ≡ value xs
+unfolding choose
+value-wider xs f = go (eqb (getD xs 0 0) 34) refl
+  where
+    go : (t : Bool) → eqb (getD xs 0 0) 34 ≡ t → identifierValue xs ≡ value xs
+    go true e = rw (choose, e)
+    go false e = let v : value xs ≡ token xs = rw (choose, e) in rw (choose, e) (run-wider xs (rw v at f))
+
+-- what a reader's text hangs on
+same-text : (f g : Reader) (xs : List ℕ) → f xs ≡ g xs → text f xs ≡ text g xs
+unfolding text
+same-text f g xs e = rw (text, e)
+
+-- what stands behind a value
+abbrev behind : List ℕ → Parser (List ℕ)
+behind v = _>>_ (ahead (inClass Delimiter)) (give (valueText v))
+
+-- 02, ticket [2]: what was readable stays so, with the same text
+pub identifier-stays : (xs t : List ℕ) (n : ℕ) → plainIdentifier xs ≡ got t n → identifier xs ≡ got t n
+unfolding plainIdentifier identifier
+identifier-stays xs t n h =
+    let a = bind-inv skip (λ (u : Unit). _>>=_ (text value) behind) xs t n h in
+    let ys = drop (a .fst) xs in
+    let b = bind-inv (text value) behind ys t (a .snd) (a .goes) in
+    let c = bind-inv (ahead (inClass Delimiter)) (λ (u : Unit). give (valueText (b .val))) (drop (b .fst) ys) t (b .snd) (b .goes) in
+    let f : Follows (inClass Delimiter) (drop (b .fst) ys) = ahead-inv (inClass Delimiter) (drop (b .fst) ys) (c .val) (c .fst) (c .reads) .0 in
+    let v = text-inv value ys (b .val) (b .fst) (b .reads) in
+    let w : identifierValue ys ≡ value ys = value-wider ys (rw (v .takes) f) in
+    let r : text identifierValue ys ≡ got (b .val) (b .fst) = same-text identifierValue value ys w ∙ b .reads in
+    bind-got skip (λ (u : Unit). _>>=_ (text identifierValue) behind) xs (a .val) (a .fst) t (a .snd) (a .reads)
+    (bind-got (text identifierValue) behind ys (b .val) (b .fst) t (b .snd) r (b .goes) ∙ ap (λ (k : ℕ). got t k) (b .sum)) ∙ ap (λ (k : ℕ). got t k) (a .sum)
+
+stays-instance : identifier (bytes " mx.example; none") ≡ got (bytes "mx.example") 11
+unfolding opened plainIdentifier
+stays-instance = identifier-stays (bytes " mx.example; none") (bytes "mx.example") 11 refl
+
+-- and more is read: bücher was no identifier
+more-read : (plainIdentifier (98 ∷ 195 ∷ 188 ∷ bytes "cher;") ≡ nothing) × (identifier (98 ∷ 195 ∷ 188 ∷ bytes "cher;") ≡ got (98 ∷ 195 ∷ 188 ∷ bytes "cher") 7)
+unfolding opened plainIdentifier
+more-read = (refl, refl)
