@@ -3,8 +3,10 @@ pub mod EntryBytes
 pub mod OwnLists
 pub mod Ends
 pub mod AsCompared
+pub mod RepeatedEntries
 pub mod Utf8Bytes
 pub mod EncodedIsTaken
 pub mod TakenIsEncoded
+pub mod EntriesInUtf8
 pub mod CallCases
 pub mod AnswersInOrder

@@ -36,7 +36,7 @@ pub data Each (P : List ℕ → Type 0) : List (List ℕ) → Type 0 where
 
 -- what follows from the tests of an entry, and from what holds of the whole list and of whatever is left of it
 module _ (P Q : List ℕ → Type 0) (rest : (x : ℕ) (xs : List ℕ) → Q (x ∷ xs) → Q xs) (this : (xs : List ℕ) (n : ℕ) → Q xs → entry xs ≡ suc n → P (take n xs)) where
-  walk-each : (at count k : ℕ) (xs : List ℕ) → Q xs → Each P (walk entryAt at count k xs .items)
+  pub walk-each : (at count k : ℕ) (xs : List ℕ) → Q xs → Each P (walk entryAt at count k xs .items)
   unfolding walk entryAt
   walk-each at count zero [] q = nil
   walk-each at count (suc k) [] q = nil
@@ -102,7 +102,7 @@ pub list-lines : (list : List ℕ) → linesOf (spelledList (ownList list .items
 list-lines list = lines-lined (feedless-spellings (good-entries list))
 
 -- a good list is its entries, each ended by LF
-walk-lined : (at count k : ℕ) (xs : List ℕ) → walk entryAt at count k xs .number ≡ 0 → drop k xs ≡ lined (walk entryAt at count k xs .items)
+pub walk-lined : (at count k : ℕ) (xs : List ℕ) → walk entryAt at count k xs .number ≡ 0 → drop k xs ≡ lined (walk entryAt at count k xs .items)
 unfolding walk entryAt lined
 walk-lined at count zero [] z = refl
 walk-lined at count (suc k) [] z = refl
