@@ -4,3 +4,4 @@ pub mod LinesAreReports
 pub mod WithIdentifiers
 pub mod Sizes
 pub mod Limits
+pub mod RepeatedEntries

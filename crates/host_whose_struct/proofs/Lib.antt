@@ -1,2 +1,3 @@
 pub mod WhoseExamples
 pub mod WhoseStrips
+pub mod RepeatedEntries

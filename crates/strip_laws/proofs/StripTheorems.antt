@@ -1,17 +1,17 @@
 -- What stripping promises beyond its contract. Each theorem is about the definition that the contract of `strip::strip` cites.
 use Prim.Native.Nat.{ℕ, _+_, _≤_}
 use native.Mathlib.Omega.{arith}
-use mathlib.Core.Path.{_≡_, refl, ap, _∙_}
-use mathlib.Core.Bool.{Bool, true, false, not, _||_}
+use mathlib.Core.Path.{_≡_, ap, _∙_}
+use mathlib.Core.Bool.{not}
 use mathlib.Core.List.{List, [], _∷_, _++_}
 use lib.ListN.{length}
 use Rattle.base_readers.specs.Walks.{Walked}
 use Rattle.block_rules.specs.Fields.{Field, fields, bytesOf}
 use Rattle.ownlist_rules.specs.OwnList.{ownList}
 use Rattle.block_laws.proofs.Fields.{fields-fine, select-fields, select-sum, select-again, select-none}
-use Rattle.identifier_rules.specs.Identifier.{sameIdentifier}
 use Rattle.ownlist_rules.specs.Listed.{among}
 use Rattle.ownlist_laws.proofs.CallCases.{by-list-same}
+use Rattle.ownlist_laws.proofs.RepeatedEntries.{among-again}
 use Rattle.strip_rules.specs.Strip.{isRemoved, removedOf, keptOf, Answer, refuse, stripFields, strip}
 use Rattle.strip_rules.specs.Answers.{leaves}
 use Rattle.strip_rules.specs.Terms.{Known}
@@ -65,20 +65,6 @@ module _ (block list : List ℕ) (room : ℕ) (z : strip block list room .number
       rw (s .is) (r ∙ rw (items, again, nothing))
 
 -- ==== a repeated list entry changes nothing
-
--- an entry that stands in the list already, put anywhere else, lists nothing new
-among-again : (e i : List ℕ) (xs ys zs : List (List ℕ)) → among (xs ++ (e ∷ (ys ++ (e ∷ zs)))) i ≡ among (xs ++ (e ∷ (ys ++ zs))) i
-unfolding among
-among-again e i [] ys zs = first (sameIdentifier e i) refl
-  where
-    later : (ys : List (List ℕ)) → sameIdentifier e i ≡ false → among (ys ++ (e ∷ zs)) i ≡ among (ys ++ zs) i
-    later [] q = rw (among, q)
-    later (y ∷ ys) q = ap (λ (t : Bool). sameIdentifier y i || t) (later ys q)
-
-    first : (t : Bool) → sameIdentifier e i ≡ t → (sameIdentifier e i || among (ys ++ (e ∷ zs)) i) ≡ (sameIdentifier e i || among (ys ++ zs) i)
-    first true q = rw q
-    first false q = rw (q, later ys q)
-among-again e i (x ∷ xs) ys zs = ap (λ (t : Bool). sameIdentifier x i || t) (among-again e i xs ys zs)
 
 -- A repeated list entry changes nothing: two good lists, of which the second has an entry of the first once more, give the same answer
 -- and the same bytes for every block and every room.
