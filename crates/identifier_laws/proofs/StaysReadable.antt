@@ -1,24 +1,24 @@
 -- 02, ticket [2]: what document 01's identifier rule read is read, with the same text and as many bytes: a token ended there by a delimiter or
 -- at the end, and so it ends there still. And no token but the identifier's holds bytes from 128 up.
-use Prim.Native.Nat.{ℕ, suc, _≤_, _<_}
+use Prim.Native.Nat.{ℕ, zero, suc, _≤_, _<_}
 use native.Mathlib.Omega.{arith}
 use mathlib.Core.Path.{_≡_, refl, sym, ap, _∙_}
 use mathlib.Core.Bool.{Bool, true, false, not}
 use mathlib.Core.List.{List, [], _∷_}
 use lib.Dec.{eqb, leb, ltb}
 use lib.ListN.{getD, take, drop}
-use borrow.Author.Tests.{le-leb, lt-leb, lt-ltb, not-true}
-use Rattle.base_sequences.proofs.Booleans.{and-left, or-right, or-none}
+use borrow.Author.Tests.{ltb-true, le-leb, lt-leb, lt-ltb, not-true}
+use Rattle.base_sequences.proofs.Booleans.{and-left, and-right, or-right, or-none}
 use Rattle.base_readers.specs.Texts.{bytes, within, oneOf, outside, follows}
 use Rattle.base_readers.specs.Readers.{Reader, run, choose}
-use Rattle.base_readers.specs.Parsers.{nothing, got, Parser, _>>=_, _>>_, give, ahead, text}
+use Rattle.base_readers.specs.Parsers.{Got, nothing, got, Parser, _>>=_, _>>_, give, ahead, text}
 use Rattle.base_readers.specs.Locality.{Follows}
 use Rattle.base_readers.proofs.Readers.{run-more}
-use Rattle.base_readers.proofs.Sequencing.{bind-got, bind-inv, ahead-inv, text-inv}
+use Rattle.base_readers.proofs.Sequencing.{no-got, bind-got, bind-inv, ahead-inv, skipping-is, text-inv}
 use Rattle.base_readers.proofs.Texts.{all, one-in}
 use Rattle.lexis_rules.specs.declared.Class.the-variants.{Token, Delimiter}
 use Rattle.lexis_rules.specs.Bytes.{inClass}
-use Rattle.lexis_rules.specs.Pieces.{token, value}
+use Rattle.lexis_rules.specs.Pieces.{space, token, value}
 use Rattle.lexis_rules.specs.Words.{valueText, skip}
 use Rattle.punycode_laws.proofs.Digits.{within-inv}
 use Rattle.identifier_rules.specs.Identifier.{identifierByte, identifierValue, identifier}
@@ -118,6 +118,51 @@ identifier-stays xs t n h =
     bind-got skip (λ (u : Unit). _>>=_ (text identifierValue) behind) xs (a .val) (a .fst) t (a .snd) (a .reads)
     (bind-got (text identifierValue) behind ys (b .val) (b .fst) t (b .snd) r (b .goes) ∙ ap (λ (k : ℕ). got t k) (b .sum)) ∙ ap (λ (k : ℕ). got t k) (a .sum)
 
+-- so what can't be read now couldn't be before
+pub plain-nothing : (xs : List ℕ) → identifier xs ≡ nothing → plainIdentifier xs ≡ nothing
+plain-nothing xs e = go (plainIdentifier xs) refl
+  where
+    go : (g : Got (List ℕ)) → plainIdentifier xs ≡ g → plainIdentifier xs ≡ nothing
+    go nothing q = q
+    go (got t n) q = absurd (no-got (sym e ∙ identifier-stays xs t n q))
+
+-- ==== and without bytes from 128 up nothing else is read
+
+abbrev Ascii : List ℕ → Type 0
+Ascii xs = all (λ b. ltb b 128) xs ≡ true
+
+ascii-drop : (n : ℕ) (xs : List ℕ) → Ascii xs → Ascii (drop n xs)
+ascii-drop zero xs h = h
+ascii-drop (suc n) [] h = refl
+ascii-drop (suc n) (x ∷ xs) h = ascii-drop n xs (and-right (ltb x 128) (all (λ b. ltb b 128) xs) h)
+
+ascii-run : (xs : List ℕ) → Ascii xs → run identifierByte xs ≡ run (inClass Token) xs
+unfolding run
+ascii-run [] h = refl
+ascii-run (x ∷ xs) h =
+    let l = ltb-true x 128 (and-left (ltb x 128) (all (λ b. ltb b 128) xs) h) in
+    go (inClass Token x) refl (identifier-byte-low x l) (ascii-run xs (and-right (ltb x 128) (all (λ b. ltb b 128) xs) h))
+  where
+    go : (t : Bool) → inClass Token x ≡ t → identifierByte x ≡ inClass Token x → run identifierByte xs ≡ run (inClass Token) xs
+        → run identifierByte (x ∷ xs) ≡ run (inClass Token) (x ∷ xs)
+    go true e s ih = run-more identifierByte x xs (s ∙ e) ∙ (ap suc ih ∙ sym (run-more (inClass Token) x xs e))
+    go false e s ih = let g : identifierByte x ≡ false = s ∙ e in rw (run, g, e)
+
+ascii-value : (xs : List ℕ) → Ascii xs → identifierValue xs ≡ value xs
+unfolding choose
+ascii-value xs h = go (eqb (getD xs 0 0) 34) refl
+  where
+    go : (t : Bool) → eqb (getD xs 0 0) 34 ≡ t → identifierValue xs ≡ value xs
+    go true e = rw (choose, e)
+    go false e = rw (choose, e) (ascii-run xs h)
+
+pub identifier-ascii : (xs : List ℕ) → all (λ b. ltb b 128) xs ≡ true → identifier xs ≡ plainIdentifier xs
+unfolding plainIdentifier identifier _>>=_
+identifier-ascii xs h =
+    let s : skip xs ≡ got tt (space xs) = skipping-is space xs (space xs) refl in
+    let t : text identifierValue (drop (space xs) xs) ≡ text value (drop (space xs) xs) = same-text identifierValue value (drop (space xs) xs) (ascii-value (drop (space xs) xs) (ascii-drop (space xs) xs h)) in
+    rw (_>>=_, s, t)
+
 stays-instance : identifier (bytes " mx.example; none") ≡ got (bytes "mx.example") 11
 unfolding opened plainIdentifier
 stays-instance = identifier-stays (bytes " mx.example; none") (bytes "mx.example") 11 refl
@@ -126,3 +171,7 @@ stays-instance = identifier-stays (bytes " mx.example; none") (bytes "mx.example
 more-read : (plainIdentifier (98 ∷ 195 ∷ 188 ∷ bytes "cher;") ≡ nothing) × (identifier (98 ∷ 195 ∷ 188 ∷ bytes "cher;") ≡ got (98 ∷ 195 ∷ 188 ∷ bytes "cher") 7)
 unfolding opened plainIdentifier
 more-read = (refl, refl)
+
+ascii-instance : plainIdentifier (bytes " (c) \"a b\" rubbish") ≡ got (bytes "a b") 10
+unfolding opened
+ascii-instance = sym (identifier-ascii (bytes " (c) \"a b\" rubbish") refl)
