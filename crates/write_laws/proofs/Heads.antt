@@ -50,10 +50,10 @@ unfolding resinfo.opened identifierByte
 identifier-shut [] h = refl
 identifier-shut (x ∷ xs) h = rw h
 
-identifier-fits : Fits identifierToken
+pub identifier-fits : Fits identifierToken
 identifier-fits = run-fits identifierByte
 
-identifier-end : Ends identifierToken []
+pub identifier-end : Ends identifierToken []
 unfolding run
 identifier-end = refl
 
@@ -69,7 +69,7 @@ high-quotable b e = go (inClass class.Token b) refl
     go true q = unfold quotable in token-quotable b q
     go false q = or-left (inClass class.Quoted b) (inClass class.Escaped b) (high-quoted b (rw q at e))
 
-identifier-text : (t : List ℕ) → whole identifierToken t ≡ true → isText t ≡ true
+pub identifier-text : (t : List ℕ) → whole identifierToken t ≡ true → isText t ≡ true
 unfolding isText
 identifier-text t e = each-weaker identifierByte quotable high-quotable t (run-whole identifierByte t e)
 

@@ -8,6 +8,8 @@ pub mod Keywords
 pub mod Results
 pub mod ReadResults
 pub mod Heads
+pub mod BareTexts
+pub mod BareMailboxes
 pub mod Lines
 pub mod Runs
 pub mod Flat

@@ -72,7 +72,7 @@ pub equals-reads : Reads (separator 61) (61 ∷ []) tt (Ends space)
 equals-reads = separator-reads 61 equals-solid
 
 -- a keyword ends before these
-unworded : (c : ℕ) (t : List ℕ) → inClass class.Keyword c ≡ false → Unworded (c ∷ t)
+pub unworded : (c : ℕ) (t : List ℕ) → inClass class.Keyword c ≡ false → Unworded (c ∷ t)
 unworded c t e = run-none (inClass class.Keyword) (c ∷ t) (unfold follows in true-not (inClass class.Keyword c) e)
 
 pub delimited-unworded : (t : List ℕ) → Delimited t → Unworded t
@@ -128,7 +128,7 @@ value-solid : (xs : List ℕ) → Starts opensValue xs → Ends space xs
 unfolding resinfo.opened
 value-solid = solid opensValue refl
 
-reason-keyword : isKeyword (bytes "reason") ≡ true
+pub reason-keyword : isKeyword (bytes "reason") ≡ true
 unfolding resinfo.opened isKeyword whole
 reason-keyword = refl
 

@@ -41,7 +41,7 @@ run-takes c [] e t g = g
 run-takes c (x ∷ w) e t g = run-more c x (w ++ t) (and-left (c x) _ e) ∙ ap suc (run-takes c w (and-right (c x) _ e) t g)
 
 -- what a run takes
-run-took : (c : ℕ → Bool) (xs : List ℕ) → each c (take (run c xs) xs) ≡ true
+pub run-took : (c : ℕ → Bool) (xs : List ℕ) → each c (take (run c xs) xs) ≡ true
 unfolding run each
 run-took c [] = refl
 run-took c (x ∷ xs) = go (c x) refl (run-took c xs)
@@ -90,7 +90,7 @@ unfolding whole
 domain-each [] e = absurd (no-true e)
 domain-each (x ∷ d) e = run-each inDomain (x ∷ d) (passing-inv isDomain (run inDomain) (x ∷ d) (length d) (eqb-true _ _ e) .0)
 
-domain-no-at : (d : List ℕ) → whole domain d ≡ true → oneOf d 64 ≡ false
+pub domain-no-at : (d : List ℕ) → whole domain d ≡ true → oneOf d 64 ≡ false
 domain-no-at d e = each-none inDomain 64 (unfold resinfo.opened in refl) d (domain-each d e)
 
 one-of-last : (l d : List ℕ) → oneOf (l ++ (64 ∷ d)) 64 ≡ true
@@ -232,7 +232,7 @@ token-value-reads t e =
         (give-reads (valueIs Token t) Delimited)
 
 -- a local part that stands bare
-bare-mailbox-reads : (l d : List ℕ) → isBareLocal l ≡ true → whole domain d ≡ true → Reads propertyValue (l ++ (64 ∷ d)) (valueIs Mailbox (l ++ (64 ∷ d))) Delimited
+pub bare-mailbox-reads : (l d : List ℕ) → isBareLocal l ≡ true → whole domain d ≡ true → Reads propertyValue (l ++ (64 ∷ d)) (valueIs Mailbox (l ++ (64 ∷ d))) Delimited
 unfolding isBareLocal addressed
 bare-mailbox-reads [] d e h = absurd (unfold whole in no-true e)
 bare-mailbox-reads (x ∷ l) d e h =
@@ -265,7 +265,7 @@ pvalue-reads Mailbox t e = mailbox-reads t (isBareLocal (localOf t)) refl (and-l
 abbrev pub Standing : Value → List ℕ → Type 0
 Standing v u = (stands (v .kind) (v .text) ≡ true) × (Bytes u → Bytes (v .text))
 
-domain-finds : Finds (text domain) (λ a u. (a ≡ u) × (whole domain a ≡ true))
+pub domain-finds : Finds (text domain) (λ a u. (a ≡ u) × (whole domain a ≡ true))
 domain-finds = text-finds domain (Ends (run inDomain)) domain-local domain-fits (unfold run in refl)
 
 -- "@", a domain, and what is made of it, behind u
