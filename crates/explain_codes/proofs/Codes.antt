@@ -1,75 +1,31 @@
 -- A code of the report, by the tests of the code. The premises are literally what a need is handed.
-use Prim.Native.Nat.{ℕ, _+_, _-_, _*_, _≤_, _<_}
+use Prim.Native.Nat.{ℕ, _+_, _*_, _≤_, _<_}
 use native.Mathlib.Omega.{arith}
-use mathlib.Core.Path.{_≡_, refl, sym, ap, _∙_}
-use mathlib.Core.Bool.{Bool, true, false, cond, _&&_, _||_}
+use mathlib.Core.Path.{_≡_, refl, sym, _∙_}
+use mathlib.Core.Bool.{Bool, true, false, _&&_}
 use mathlib.Core.List.{List}
 use lib.Dec.{leb, eqb}
 use lib.ListN.{getD}
-use borrow.Author.Tests.{le-leb, lt-leb, leb-true, eq-eqb, ne-eqb}
-use Rattle.base_sequences.proofs.Booleans.{no-true, and-left, and-right, and-none}
-use Rattle.base_readers.specs.Texts.{within}
+use borrow.Author.Tests.{le-leb, lt-leb, eq-eqb, ne-eqb}
+use Rattle.base_sequences.proofs.Booleans.{and-left, and-right}
 use Rattle.write_rules.specs.Entries.{isHex, hexValue}
+use Rattle.write_laws.proofs.HexDigits.{hexOr, hex-small, hex-not}
 use Rattle.explain_rules.specs.Texts.{isCode, codeByte, codeMore}
 use Rattle.explain_rules.proofs.Texts.{byte-code, more-code, byte-itself, more-itself}
-use Rattle.explain_codes.specs.Internal.{hexOr}
 
 -- ==== hex digits
 
-pub hex-below : (b : ℕ) → b < 48 → 16 ≡ hexOr b
-unfolding hexOr isHex within
-hex-below b h = let o : b < 65 = omega arith in rw (lt-leb 48 b h, lt-leb 65 b o)
-
-pub hex-digit : (b : ℕ) → 48 ≤ b → b ≤ 57 → b - 48 ≡ hexOr b
-unfolding hexOr isHex within hexValue
-hex-digit b h k = rw (le-leb 48 b h, le-leb b 57 k)
-
-pub hex-between : (b : ℕ) → 57 < b → b < 65 → 16 ≡ hexOr b
-unfolding hexOr isHex within
-hex-between b h k = rw (lt-leb b 57 h, lt-leb 65 b k, and-none (leb 48 b))
-
-pub hex-letter : (b : ℕ) → 57 < b → 65 ≤ b → b ≤ 70 → b - 55 ≡ hexOr b
-unfolding hexOr isHex within hexValue
-hex-letter b h k l = let e : b - 55 ≡ b - 65 + 10 = omega arith in rw (lt-leb b 57 h, le-leb 65 b k, le-leb b 70 l, and-none (leb 48 b)) e
-
-pub hex-above : (b : ℕ) → 57 < b → 70 < b → 16 ≡ hexOr b
-unfolding hexOr isHex within
-hex-above b h k = rw (lt-leb b 57 h, lt-leb b 70 k, and-none (leb 48 b), and-none (leb 65 b))
-
--- a digit is below 16
-hex-small : (b : ℕ) → isHex b ≡ true → hexValue b < 16
-unfolding isHex within hexValue
-hex-small b e = go (leb b 57) refl
-  where
-    pick : (a c : Bool) → (a && false || c) ≡ true → c ≡ true
-    pick true c e = e
-    pick false c e = e
-
-    go : (t : Bool) → leb b 57 ≡ t → cond (leb b 57) (b - 48) (b - 65 + 10) < 16
-    go true q = rw q (omega (arith, leb-true b 57 q))
-    go false q =
-        let f : (leb 65 b && leb b 70) ≡ true = pick (leb 48 b) (leb 65 b && leb b 70) (rw q at e) in
-        rw q (omega (arith, leb-true 65 b (and-left (leb 65 b) (leb b 70) f), leb-true b 70 (and-right (leb 65 b) (leb b 70) f)))
-
 module _ (b h : ℕ) (e : h ≡ hexOr b) where
-  hex-not : 15 < h → isHex b ≡ false
+  hex-is : isHex b ≡ true → (h ≡ hexValue b) × (h < 16)
   unfolding hexOr
-  hex-not l = go (isHex b) refl
-    where
-      go : (t : Bool) → isHex b ≡ t → isHex b ≡ false
-      go true q = absurd (let z : h ≡ hexValue b = e ∙ rw q in omega (arith, hex-small b q))
-      go false q = q
-
-  hex-yes : isHex b ≡ true → (h ≡ hexValue b) × (h < 16)
-  unfolding hexOr
-  hex-yes q = let z : h ≡ hexValue b = e ∙ rw q in (z, omega (arith, hex-small b q))
+  hex-is q = let z : h ≡ hexValue b = e ∙ rw q in (z, omega (arith, hex-small b q))
 
   hex-test : leb h 15 ≡ isHex b
   unfolding hexOr
   hex-test = go (isHex b) refl
     where
       go : (t : Bool) → isHex b ≡ t → leb h 15 ≡ isHex b
-      go true q = le-leb h 15 (omega (arith, hex-yes q .1)) ∙ sym q
+      go true q = le-leb h 15 (omega (arith, hex-is q .1)) ∙ sym q
       go false q = let z : h ≡ 16 = e ∙ rw q in lt-leb h 15 (omega arith) ∙ sym q
 
 -- ==== a code
@@ -95,14 +51,14 @@ module _ (l : List ℕ) (c : Bool) (e : c ≡ isCode l) where
     rest-hex = and-right (eqb (getD l 0 0) 37) (isHex (getD l 1 0) && isHex (getD l 2 0)) (sym e ∙ t)
 
     first-is : (h ≡ hexValue (getD l 1 0)) × (h < 16)
-    first-is = rw f at (hex-yes y h q (rw (← f) at (and-left (isHex (getD l 1 0)) (isHex (getD l 2 0)) rest-hex)))
+    first-is = rw f at (hex-is y h q (rw (← f) at (and-left (isHex (getD l 1 0)) (isHex (getD l 2 0)) rest-hex)))
 
     pub first-small : h < 16
     first-small = first-is .1
 
     module _ (z : ℕ) (g : z ≡ getD l 2 0) (k : ℕ) (r : k ≡ hexOr z) where
       second-is : (k ≡ hexValue (getD l 2 0)) × (k < 16)
-      second-is = rw g at (hex-yes z k r (rw (← g) at (and-right (isHex (getD l 1 0)) (isHex (getD l 2 0)) rest-hex)))
+      second-is = rw g at (hex-is z k r (rw (← g) at (and-right (isHex (getD l 1 0)) (isHex (getD l 2 0)) rest-hex)))
 
       pub second-small : k < 16
       second-small = second-is .1

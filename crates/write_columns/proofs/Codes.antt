@@ -2,12 +2,12 @@
 use Prim.Native.Nat.{ℕ, _+_, _-_, _*_, _^_, _≤_, _<_, zero-le}
 use native.Mathlib.Omega.{arith}
 use mathlib.Core.Path.{_≡_, refl, sym, ap, _∙_}
-use mathlib.Core.Bool.{Bool, true, false, not, cond, _&&_, _||_}
+use mathlib.Core.Bool.{Bool, true, false, not, _&&_}
 use mathlib.Core.List.{List, [], _∷_}
-use lib.Dec.{eqb, leb}
+use lib.Dec.{eqb}
 use lib.ListN.{length, drop, getD}
-use borrow.Author.Tests.{le-leb, lt-leb, leb-true, eq-eqb, ne-eqb}
-use Rattle.base_sequences.proofs.Booleans.{no-true, both, and-none, true-not, false-not}
+use borrow.Author.Tests.{eq-eqb, ne-eqb}
+use Rattle.base_sequences.proofs.Booleans.{both, and-none, true-not, false-not}
 use Rattle.base_readers.specs.Texts.{within, starts}
 use mir.Syntax.{w64}
 use mir.Val as machine
@@ -18,6 +18,7 @@ use Rattle.base_readers.proofs.Loops.{many-on, many-off, turn-fits, turn-less}
 use Rattle.base_readers.proofs.Repeats.{several-none, several-again, several-total}
 use lib.Seq.{drop-drop}
 use Rattle.write_laws.proofs.Coded.{coded-byte-within}
+use Rattle.write_laws.proofs.HexDigits.{hexOr, hex-not, hex-yes}
 use Rattle.base_readers.specs.Parsers.{Got, nothing, got, when, byte, several}
 use Rattle.base_readers.proofs.Sequencing.{bind-none, bind-stuck, bind-got, byte-is, byte-not, when-is, when-not, give-is, either-first, either-second}
 use Rattle.lexis_rules.specs.declared.Class.the-variants.{Visible}
@@ -25,29 +26,7 @@ use Rattle.lexis_rules.specs.Bytes.{inClass}
 use Rattle.report_rules.specs.Report.{plain}
 use Rattle.write_rules.specs.Entries.{single, isHex, hexValue, escaped}
 use Rattle.write_columns.specs.declared.coded.Code.{Code}
-use Rattle.write_columns.specs.Internal.{codedByte, codeSize, codeValue, codeAt, textOf, hexOr}
-
--- ==== hex digits
-
-pub hex-below : (b : ℕ) → b < 48 → 16 ≡ hexOr b
-unfolding hexOr isHex within
-hex-below b h = let o : b < 65 = omega arith in rw (lt-leb 48 b h, lt-leb 65 b o)
-
-pub hex-digit : (b : ℕ) → 48 ≤ b → b ≤ 57 → b - 48 ≡ hexOr b
-unfolding hexOr isHex within hexValue
-hex-digit b h k = rw (le-leb 48 b h, le-leb b 57 k)
-
-pub hex-between : (b : ℕ) → 57 < b → b < 65 → 16 ≡ hexOr b
-unfolding hexOr isHex within
-hex-between b h k = rw (lt-leb b 57 h, lt-leb 65 b k, and-none (leb 48 b))
-
-pub hex-letter : (b : ℕ) → 57 < b → 65 ≤ b → b ≤ 70 → b - 55 ≡ hexOr b
-unfolding hexOr isHex within hexValue
-hex-letter b h k l = let e : b - 55 ≡ b - 65 + 10 = omega arith in rw (lt-leb b 57 h, le-leb 65 b k, le-leb b 70 l, and-none (leb 48 b)) e
-
-pub hex-above : (b : ℕ) → 57 < b → 70 < b → 16 ≡ hexOr b
-unfolding hexOr isHex within
-hex-above b h k = rw (lt-leb b 57 h, lt-leb b 70 k, and-none (leb 48 b), and-none (leb 65 b))
+use Rattle.write_columns.specs.Internal.{codedByte, codeSize, codeValue, codeAt, textOf}
 
 -- ==== bytes that stand for themselves
 
@@ -94,45 +73,6 @@ module _ (xs : List ℕ) (r : Bool) (p : r ≡ plain (getD xs 0 0)) where
         go (y ∷ ys) e = unfold starts in ne-eqb y 37 e
 
 -- ==== hex digits behind a percent sign
-
-hex-small : (b : ℕ) → isHex b ≡ true → hexValue b < 16
-unfolding isHex within hexValue
-hex-small b e = go (leb b 57) refl
-  where
-    pick : (a c d : Bool) → (a && false || c && d) ≡ true → (c && d) ≡ true
-    pick true c d e = e
-    pick false c d e = e
-
-    first : (c d : Bool) → (c && d) ≡ true → d ≡ true
-    first true d e = e
-    first false d e = absurd (no-true e)
-
-    left : (c d : Bool) → (c && d) ≡ true → c ≡ true
-    left true d e = refl
-    left false d e = absurd (no-true e)
-
-    go : (t : Bool) → leb b 57 ≡ t → cond (leb b 57) (b - 48) (b - 65 + 10) < 16
-    go true q = rw q (omega (arith, leb-true b 57 q))
-    go false q =
-        let f : (leb 65 b && leb b 70) ≡ true = pick (leb 48 b) (leb 65 b) (leb b 70) (rw q at e) in
-        rw q (omega (arith, leb-true 65 b (left (leb 65 b) (leb b 70) f), leb-true b 70 (first (leb 65 b) (leb b 70) f)))
-
-module _ (b h : ℕ) (e : h ≡ hexOr b) where
-  pub hex-not : 15 < h → isHex b ≡ false
-  unfolding hexOr
-  hex-not l = go (isHex b) refl
-    where
-      go : (t : Bool) → isHex b ≡ t → isHex b ≡ false
-      go true q = absurd (let z : h ≡ hexValue b = e ∙ rw q in omega (arith, hex-small b q))
-      go false q = q
-
-  pub hex-yes : h ≤ 15 → (isHex b ≡ true) × (h ≡ hexValue b)
-  unfolding hexOr
-  hex-yes l = go (isHex b) refl
-    where
-      go : (t : Bool) → isHex b ≡ t → (isHex b ≡ true) × (h ≡ hexValue b)
-      go true q = (q, e ∙ rw q)
-      go false q = absurd (let z : h ≡ 16 = e ∙ rw q in omega arith)
 
 zero-hex : isHex 0 ≡ false
 unfolding isHex within

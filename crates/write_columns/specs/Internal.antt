@@ -16,7 +16,7 @@ use Rattle.result_rules.specs.Results.{Kind, Property, inLocalPart}
 use Rattle.base_sequences.specs.Spans.{span}
 use Rattle.report_rules.specs.Report.{plain, escape}
 use Rattle.write_rules.specs.Promise.{Bytes}
-use Rattle.write_rules.specs.Entries.{Entry, shown, kindOf, kindLetter, stands, allowed, whole, single, isHex, hexValue, escaped, quotable, isText, coded}
+use Rattle.write_rules.specs.Entries.{Entry, shown, kindOf, kindLetter, stands, allowed, whole, single, escaped, quotable, isText, coded}
 use Rattle.write_columns.specs.declared.coded.Code.{Code}
 use Rattle.write_columns.specs.declared.coded.Tail as tail
 use Rattle.write_columns.specs.declared.coded.Test.{Test}
@@ -54,10 +54,6 @@ inTest test.Text b = quotable b
 inTest test.Token b = inClass class.Token b
 inTest test.Identifier b = identifierByte b
 inTest test.Local b = inLocalPart b
-
--- the number of a hex digit; 16 for any other byte
-unfoldable pub hexOr : ℕ → ℕ
-hexOr b = cond (isHex b) (hexValue b) 16
 
 -- all that is read of a text in one walk
 abbrev pub textAt : Test → List ℕ → ℕ → read.Text

@@ -1,6 +1,7 @@
 pub mod Readback
 pub mod Finds
 pub mod Coded
+pub mod HexDigits
 pub mod Quotes
 pub mod Bounds
 pub mod Values

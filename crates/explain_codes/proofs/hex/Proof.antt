@@ -1,5 +1,5 @@
--- `explain_codes::hex` meets its contract: each way out has its law in `Codes`.
-use Rattle.explain_codes.proofs.Codes.{hex-below, hex-digit, hex-between, hex-letter, hex-above}
+-- `explain_codes::hex` meets its contract: each way out has its law in write_laws/proofs/HexDigits.antt.
+use Rattle.write_laws.proofs.HexDigits.{hex-below, hex-digit, hex-between, hex-letter, hex-above}
 use borrow.Author.Needs.{needs}
 use Rattle.explain_codes.proofs.hex.Statement.{statement}
 use Rattle.explain_codes.proofs.hex.Tie as tie

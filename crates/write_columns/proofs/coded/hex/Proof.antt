@@ -1,5 +1,5 @@
--- `write_columns::coded::hex` meets its contract: each way out has its law in `Codes`.
-use Rattle.write_columns.proofs.Codes.{hex-below, hex-digit, hex-between, hex-letter, hex-above}
+-- `write_columns::coded::hex` meets its contract: each way out has its law in write_laws/proofs/HexDigits.antt.
+use Rattle.write_laws.proofs.HexDigits.{hex-below, hex-digit, hex-between, hex-letter, hex-above}
 use borrow.Author.Needs.{needs}
 use Rattle.write_columns.proofs.coded.hex.Statement.{statement}
 use Rattle.write_columns.proofs.coded.hex.Tie as tie
