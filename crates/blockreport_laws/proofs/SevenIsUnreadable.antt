@@ -57,17 +57,17 @@ read-other body i n e z = go (stated (drop n body)) refl
     go nothing q = by none 0 (optional-none stated (drop n body) q)
     go (got v m) q = by (some v) m (optional-some stated (drop n body) v m q)
 
-pub seven-unreadable : (body : List ℕ) → numberOf (reading body) ≡ 7 → identifier body ≡ nothing
-seven-unreadable body z = go (identifier body) refl
+pub seven-when : (body : List ℕ) → numberOf (reading body) ≡ 7 → identifier body ≡ nothing
+seven-when body z = go (identifier body) refl
   where
     go : (g : Got (List ℕ)) → identifier body ≡ g → identifier body ≡ nothing
     go nothing e = e
     go (got i n) e = absurd (read-other body i n e z)
 
-pub unreadable-seven : (body : List ℕ) → identifier body ≡ nothing → numberOf (reading body) ≡ 7
+pub when-seven : (body : List ℕ) → identifier body ≡ nothing → numberOf (reading body) ≡ 7
 unfolding reading head
-unreadable-seven body e = let h : head body ≡ nothing = bind-none identifier _ body e in rw (reading, h)
+when-seven body e = let h : head body ≡ nothing = bind-none identifier _ body e in rw (reading, h)
 
 instance : identifier (bytes " ; none") ≡ nothing
 unfolding opened
-instance = seven-unreadable (bytes " ; none") refl
+instance = seven-when (bytes " ; none") refl

@@ -180,9 +180,9 @@ same-labels end = refl
 same-labels (pair {l} {m} {ls} {ms} s w) = ap (λ (x : List ℕ). x ∷ map shown ls) (same-shown l m s) ∙ ap (λ (r : List (List ℕ)). shown m ∷ r) (same-labels w)
 
 -- equal identifiers have the same labels
-pub identifier-when-same : (a b : List ℕ) → sameIdentifier a b ≡ true → SameLabels (labels a) (labels b)
+pub identifier-same-when : (a b : List ℕ) → sameIdentifier a b ≡ true → SameLabels (labels a) (labels b)
 unfolding sameIdentifier alike
-identifier-when-same a b h =
+identifier-same-when a b h =
     let e : joined (map shown (labels a)) ≡ joined (map shown (labels b)) = sym (spelling-shown a) ∙ (same-eq (map lower (spelling a)) (map lower (spelling b)) h ∙ spelling-shown b) in
     labels-same (labels a) (labels b) (go (labels a) (labels b) (labels-some a) (labels-some b) (labels-dotless a) (labels-dotless b) e)
   where
@@ -193,9 +193,9 @@ identifier-when-same a b h =
     go (l ∷ ls) (m ∷ ms) s t v w e = joined-told (shown l) (shown m) (map shown ls) (map shown ms) (shown-dotless v) (shown-dotless w) e
 
 -- and identifiers with the same labels are equal
-pub same-when-identifier : (a b : List ℕ) → SameLabels (labels a) (labels b) → sameIdentifier a b ≡ true
+pub identifier-when-same : (a b : List ℕ) → SameLabels (labels a) (labels b) → sameIdentifier a b ≡ true
 unfolding sameIdentifier alike
-same-when-identifier a b w =
+identifier-when-same a b w =
     let e : map lower (spelling a) ≡ map lower (spelling b) = spelling-shown a ∙ (ap joined (same-labels w) ∙ sym (spelling-shown b)) in
     rw e (same-refl (map lower (spelling b)))
 
@@ -214,12 +214,12 @@ labels-instance =
     (pair (standing (λ p. absurd (no-true p)) (λ p. absurd (no-true p)) refl) end)
 
 same-instance : sameIdentifier (bytes "xn--bcher-kva.Example") (98 ∷ 195 ∷ 188 ∷ bytes "cher.example") ≡ true
-same-instance = same-when-identifier (bytes "xn--bcher-kva.Example") (98 ∷ 195 ∷ 188 ∷ bytes "cher.example") labels-instance
+same-instance = identifier-when-same (bytes "xn--bcher-kva.Example") (98 ∷ 195 ∷ 188 ∷ bytes "cher.example") labels-instance
 
 -- an A-label against bucher: no way of being the same is left
 other-instance : SameLabels (labels (bytes "xn--bcher-kva")) (labels (bytes "bucher")) → ⊥
 unfolding opened
-other-instance w = no-true (same-when-identifier (bytes "xn--bcher-kva") (bytes "bucher") w)
+other-instance w = no-true (identifier-when-same (bytes "xn--bcher-kva") (bytes "bucher") w)
 
 -- neither xn--mller-k! nor XN--MLLER-K! decodes
 stands-instance : sameIdentifier (bytes "xn--mller-k!") (bytes "XN--MLLER-K!") ≡ alike (bytes "xn--mller-k!") (bytes "XN--MLLER-K!")

@@ -4,7 +4,7 @@ use Prim.Native.Nat.{ℕ, zero, suc, _≤_, _<_}
 use native.Mathlib.Omega.{arith}
 use mathlib.Core.Path.{_≡_, refl, sym, ap, _∙_}
 use mathlib.Core.Bool.{Bool, true, false, not}
-use mathlib.Core.List.{List, [], _∷_}
+use mathlib.Core.List.{List, [], _∷_, _++_}
 use lib.Dec.{eqb, leb, ltb}
 use lib.ListN.{getD, take, drop}
 use borrow.Author.Tests.{ltb-true, le-leb, lt-leb, lt-ltb, not-true}
@@ -175,3 +175,9 @@ more-read = (refl, refl)
 ascii-instance : plainIdentifier (bytes " (c) \"a b\" rubbish") ≡ got (bytes "a b") 10
 unfolding opened
 ascii-instance = sym (identifier-ascii (bytes " (c) \"a b\" rubbish") refl)
+
+-- document 01's rule on both sides of what is new: bytes from 128 up stand in a quoted string and in a comment, and in no token
+plain-high :
+    (plainIdentifier (bytes "(" ++ (252 ∷ bytes ")\"") ++ (252 ∷ bytes "\";")) ≡ got (252 ∷ []) 6) × (plainIdentifier (bytes "a" ++ (252 ∷ bytes ";")) ≡ nothing)
+unfolding opened plainIdentifier
+plain-high = (refl, refl)

@@ -9,7 +9,7 @@ use mathlib.Core.List.{List, [], _∷_, _++_, map, append-assoc}
 use lib.Dec.{leb, lit≤}
 use lib.ListN.{length, getD, take, drop, take-append-drop, length-append, length-map}
 use lib.Seq.{length-take-le, take-take, take-append-seam, drop-append-seam, getD-append-seam, drop-drop}
-use borrow.Author.Tests.{lt-ltb, le-leb, lt-leb}
+use borrow.Author.Tests.{le-leb, lt-leb}
 use Rattle.base_sequences.proofs.Booleans.{no-true, and-left, and-right}
 use Rattle.base_readers.specs.Texts.{bytes}
 use Rattle.base_readers.specs.Readers.{many}
@@ -23,7 +23,7 @@ use Rattle.lexis_rules.specs.Bytes.{inClass}
 use Rattle.punycode_rules.specs.Unicode.{scalar, utf8, utf8s}
 use Rattle.punycode_laws.proofs.Digits.{within-inv}
 use Rattle.punycode_laws.proofs.Encoding.{utf8-bounds}
-use Rattle.punycode_laws.proofs.BytesTellCodePoints.{Form, one, two, three, four, form}
+use Rattle.punycode_laws.proofs.BytesTellCodePoints.{utf8-low, Form, one, two, three, four, form}
 use Rattle.ownlist_rules.specs.Utf8.{second, further, sequence}
 use Rattle.ownlist_rules.specs.OwnList.{entryLimit, longest, entryItem, entryText, entry, entryAt, ownList}
 use Rattle.ownlist_rules.proofs.Unfolding.{opened}
@@ -63,10 +63,6 @@ high-invisible b h = go (inClass Visible b) refl
     go : (t : Bool) → inClass Visible b ≡ t → inClass Visible b ≡ false
     go true e = let k = visible-below b e in absurd (omega (arith, k))
     go false e = e
-
-utf8-low : (x : ℕ) → x < 128 → utf8 x ≡ x ∷ []
-unfolding utf8
-utf8-low x h = rw (utf8, lt-ltb x 128 h)
 
 point-high : (x : ℕ) → 128 ≤ x → entryPoint x ≡ scalar x
 unfolding entryPoint
@@ -171,8 +167,8 @@ texts-of (cons {e} {es} c w) =
     }
 
 -- a list that is not refused
-pub list-when-good : (list : List ℕ) → ownList list .number ≡ 0 → Utf8Entries list
-list-when-good list z =
+pub list-good-when : (list : List ℕ) → ownList list .number ≡ 0 → Utf8Entries list
+list-good-when list z =
     let t = texts-of (walk-each Coded (λ xs. Unit {0}) (λ x xs q. tt) (λ xs n q e. entry-coded xs n e) 0 0 0 list tt) in
     record {
       texts = t .texts;
@@ -263,8 +259,8 @@ walk-points (u ∷ us) (cons g w) at count h =
     i ∙ (ap (λ (k : List ℕ). before (utf8s u) (walk entryAt (at + n) (suc count) 0 k)) d ∙ ap (before (utf8s u)) (walk-points us w (at + n) (suc count) (omega (arith, h))))
 
 -- such a list is read as these texts
-pub good-when-list : (list : List ℕ) (w : Utf8Entries list) → ownList list ≡ record { items = map utf8s (w .texts); number = 0; place = 0 }
-good-when-list list w = ap ownList (w .is) ∙ walk-points (w .texts) (w .each) 0 0 (let k = w .few in omega (arith, k))
+pub list-when-good : (list : List ℕ) (w : Utf8Entries list) → ownList list ≡ record { items = map utf8s (w .texts); number = 0; place = 0 }
+list-when-good list w = ap ownList (w .is) ∙ walk-points (w .texts) (w .each) 0 0 (let k = w .few in omega (arith, k))
 
 -- ==== and every other list is refused
 
@@ -272,7 +268,7 @@ pub other-list-five : (list : List ℕ) → (Utf8Entries list → ⊥) → ownLi
 other-list-five list other = go (ownList list .number) refl
   where
     go : (n : ℕ) → ownList list .number ≡ n → ownList list .number ≡ 5
-    go zero e = absurd (other (list-when-good list e))
+    go zero e = absurd (other (list-good-when list e))
     go (suc n) e = e ∙ list-five list n e
 
 -- ==== instances
@@ -280,18 +276,18 @@ other-list-five list other = go (ownList list .number) refl
 -- bücher and its LF
 utf8-instance : Utf8Entries (98 ∷ 195 ∷ 188 ∷ bytes "cher\n")
 unfolding opened
-utf8-instance = list-when-good (98 ∷ 195 ∷ 188 ∷ bytes "cher\n") refl
+utf8-instance = list-good-when (98 ∷ 195 ∷ 188 ∷ bytes "cher\n") refl
 
 list-instance : ownList (98 ∷ 195 ∷ 188 ∷ bytes "cher\n") ≡ record { items = (98 ∷ 195 ∷ 188 ∷ bytes "cher") ∷ []; number = 0; place = 0 }
 unfolding opened utf8s utf8 entryPoint scalar
 list-instance =
-    good-when-list (98 ∷ 195 ∷ 188 ∷ bytes "cher\n")
+    list-when-good (98 ∷ 195 ∷ 188 ∷ bytes "cher\n")
     (record { texts = (98 ∷ 252 ∷ bytes "cher") ∷ []; each = cons (record { points = refl; some = lit≤ tt; short = lit≤ tt }) nil; few = lit≤ tt; is = refl })
 
 -- the same text in ISO 8859-1 is no UTF-8: 5
 latin-instance : Utf8Entries (98 ∷ 252 ∷ bytes "cher\n") → ⊥
 unfolding opened
-latin-instance w = let z : _≡_ {A = ℕ} 5 0 = ap (λ (a : Walked (List ℕ)). a .number) (good-when-list (98 ∷ 252 ∷ bytes "cher\n") w) in omega (arith, z)
+latin-instance w = let z : _≡_ {A = ℕ} 5 0 = ap (λ (a : Walked (List ℕ)). a .number) (list-when-good (98 ∷ 252 ∷ bytes "cher\n") w) in omega (arith, z)
 
 five-instance : ownList (98 ∷ 252 ∷ bytes "cher\n") .number ≡ 5
 five-instance = other-list-five (98 ∷ 252 ∷ bytes "cher\n") latin-instance

@@ -34,13 +34,13 @@ use Rattle.promises.specs.Calls.{reports, writes}
 -- follow a value, the end or one of space, tab, CR, "(" or ";" (`Delimited`)
 module _ (t x : List ℕ) (d : Delimited x) where
   pub identifier-bare : Exactly (piece (identified t) ≡ code " " ∷ t) (identifier (code " " ∷ (t ++ x)) ≡ got t (suc (length t)))
-  identifier-bare = (bare.bare-identifier t x d, bare.identifier-bare t x)
+  identifier-bare = (bare.identifier-bare-when t x d, bare.identifier-when-bare t x)
 
   pub identifier-quoted : (identifier (code " " ∷ (t ++ x)) ≡ got t (suc (length t)) → ⊥) → piece (identified t) ≡ code " " ∷ quote t
   identifier-quoted = bare.identifier-quoted t x d
 
   pub reason-bare : Exactly (piece (reasoned t) ≡ bytes " reason=" ++ t) (reason (bytes " reason=" ++ (t ++ x)) ≡ got t (8 + length t))
-  reason-bare = (bare.bare-reason t x d, bare.reason-bare t x)
+  reason-bare = (bare.reason-bare-when t x d, bare.reason-when-bare t x)
 
   pub reason-quoted : (reason (bytes " reason=" ++ (t ++ x)) ≡ got t (8 + length t) → ⊥) → piece (reasoned t) ≡ bytes " reason=" ++ quote t
   reason-quoted = bare.reason-quoted t x d
@@ -48,7 +48,7 @@ module _ (t x : List ℕ) (d : Delimited x) where
 module _ (l d x : List ℕ) (h : whole domain d ≡ true) (f : Delimited x) where
   pub mailbox-bare : Exactly (pvalue (record { kind = Mailbox; text = l ++ (code "@" ∷ d) }) ≡ l ++ (code "@" ∷ d))
       (propertyValue ((l ++ (code "@" ∷ d)) ++ x) ≡ got (record { kind = Mailbox; text = l ++ (code "@" ∷ d) }) (length (l ++ (code "@" ∷ d))))
-  mailbox-bare = (mailboxes.bare-mailbox l d x h f, mailboxes.mailbox-bare l d x h)
+  mailbox-bare = (mailboxes.mailbox-bare-when l d x h f, mailboxes.mailbox-when-bare l d x h)
 
   pub mailbox-quoted :
       (propertyValue ((l ++ (code "@" ∷ d)) ++ x) ≡ got (record { kind = Mailbox; text = l ++ (code "@" ∷ d) }) (length (l ++ (code "@" ∷ d))) → ⊥)

@@ -29,7 +29,7 @@ use Rattle.ownlist_rules.proofs.Unfolding.{opened}
 use Rattle.ownlist_laws.proofs.OwnLists as lists
 use Rattle.ownlist_laws.proofs.EntriesInUtf8 as entries
 use Rattle.report_rules.proofs.Unfolding as body-opened
-use Rattle.blockreport_laws.proofs.SevenIsUnreadable.{seven-unreadable}
+use Rattle.blockreport_laws.proofs.SevenIsUnreadable.{seven-when}
 use Rattle.promises.specs.Exactly.{Exactly}
 use Rattle.promises.specs.Calls.{reports}
 use Rattle.promises.proofs.Demand1.{report-0-7-8-9}
@@ -75,7 +75,7 @@ label-example =
 -- labels are the same where both stand and are alike, or where the code points that they decode to, or are in UTF-8, are the same but for ASCII
 -- case (`SameLabel` in identifier_laws/proofs/EqualExactly.antt). Where the numbers differ, or one pair isn't the same, the identifiers aren't equal
 pub identifier-exactly : (a b : List ℕ) → Exactly (sameIdentifier a b ≡ true) (equal.SameLabels (labels a) (labels b))
-identifier-exactly a b = (equal.identifier-when-same a b, equal.same-when-identifier a b)
+identifier-exactly a b = (equal.identifier-same-when a b, equal.identifier-when-same a b)
 
 -- xn--bcher-kva.example has the labels of bücher.example, and not those of bucher.example
 exactly-same : equal.SameLabels (labels (bytes "xn--bcher-kva.example")) (labels (98 ∷ 195 ∷ 188 ∷ bytes "cher.Example"))
@@ -126,7 +126,7 @@ identifier-ascii = readable.identifier-ascii
 -- so a body that answers 7 now answered 7 before
 pub seven-before : (body old : List ℕ) → reports body old .answer .number ≡ 7 → readable.plainIdentifier body ≡ nothing
 seven-before body old z =
-    readable.plain-nothing body (seven-unreadable body (report-0-7-8-9 body old 7 (λ q. omega (arith, q)) (λ q. omega (arith, q)) .0 z .1 .0))
+    readable.plain-nothing body (seven-when body (report-0-7-8-9 body old 7 (λ q. omega (arith, q)) (λ q. omega (arith, q)) .0 z .1 .0))
 
 -- and some that did don't: bücher is an identifier now
 fewer-example : (readable.plainIdentifier (98 ∷ 195 ∷ 188 ∷ bytes "cher; none") ≡ nothing) × (reports (98 ∷ 195 ∷ 188 ∷ bytes "cher; none") (bytes "....................") .answer .number ≡ 0)
@@ -142,7 +142,7 @@ stays-example = identifier-stays (bytes " mx.example; none") (bytes "mx.example"
 -- a list is good exactly where it is at most 64 texts in UTF-8 of 1 to 255 bytes, each ended by LF, of code points 33 to 126 and scalar values
 -- from 128 up
 pub list-exactly : (list : List ℕ) → Exactly (ownList list .number ≡ 0) (entries.Utf8Entries list)
-list-exactly list = (entries.list-when-good list, λ w. ap (λ (a : Walked (List ℕ)). a .number) (entries.good-when-list list w))
+list-exactly list = (entries.list-good-when list, λ w. ap (λ (a : Walked (List ℕ)). a .number) (entries.list-when-good list w))
 
 pub list-five : (list : List ℕ) → (entries.Utf8Entries list → ⊥) → ownList list .number ≡ 5
 list-five = entries.other-list-five

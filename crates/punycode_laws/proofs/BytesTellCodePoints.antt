@@ -7,9 +7,14 @@ use mathlib.Core.Bool.{Bool, true, false}
 use mathlib.Core.List.{List, [], _∷_, _++_, head-eq-of-cons-eq, tail-eq-of-cons-eq}
 use lib.Dec.{ltb}
 use lib.ListN.{length}
-use borrow.Author.Tests.{ltb-true, ltb-false, le-ltb}
+use borrow.Author.Tests.{ltb-true, ltb-false, lt-ltb, le-ltb}
 use Rattle.punycode_rules.specs.Unicode.{utf8, utf8s}
 use Rattle.punycode_rules.proofs.Unfolding.{opened}
+
+-- a byte of ASCII stands itself
+pub utf8-low : (x : ℕ) → x < 0x80 → utf8 x ≡ x ∷ []
+unfolding utf8
+utf8-low x h = rw (utf8, lt-ltb x 0x80 h)
 
 -- the four forms
 pub data Form (x : ℕ) : Type 0 where
@@ -31,7 +36,7 @@ form x = by-80 (ltb x 0x80) refl
     by-800 h false e = by-10000 h (ltb-false x 0x800 e) (ltb x 0x10000) refl
 
     by-80 : (t : Bool) → ltb x 0x80 ≡ t → Form x
-    by-80 true e = one (ltb-true x 0x80 e) (rw (utf8, e))
+    by-80 true e = let h = ltb-true x 0x80 e in one h (utf8-low x h)
     by-80 false e = by-800 (ltb-false x 0x80 e) (ltb x 0x800) refl
 
 -- a number is told by its quotient and its remainder

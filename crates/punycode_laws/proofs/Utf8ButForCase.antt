@@ -7,12 +7,12 @@ use mathlib.Core.Bool.{Bool, true, false}
 use mathlib.Core.List.{List, [], _∷_, _++_, map, head-eq-of-cons-eq, tail-eq-of-cons-eq}
 use lib.Dec.{leb, ltb}
 use lib.ListN.{length}
-use borrow.Author.Tests.{leb-true, lt-ltb}
+use borrow.Author.Tests.{leb-true, ltb-true, lt-ltb}
 use Rattle.base_readers.specs.Texts.{within}
 use Rattle.lexis_rules.specs.Bytes.{lower}
 use Rattle.punycode_rules.specs.Unicode.{utf8, utf8s}
 use Rattle.punycode_rules.proofs.Unfolding.{opened}
-use Rattle.punycode_laws.proofs.BytesTellCodePoints.{Form, one, two, three, four, form, code-points-told}
+use Rattle.punycode_laws.proofs.BytesTellCodePoints.{utf8-low, Form, one, two, three, four, form, code-points-told}
 use Rattle.punycode_laws.proofs.Case.{basic-case, high-case, utf8s-case}
 
 -- ==== equal bytes are equal code points
@@ -65,10 +65,6 @@ high-front (b ∷ bs) t (y ∷ m) (more h w) e =
     let r = high-front bs t m w (tail-eq-of-cons-eq e) in
     (r .0, (ap (λ (z : ℕ). z ∷ m) i ∙ ap (λ (l : List ℕ). b ∷ l) (r .1 .0), r .1 .1))
 
-utf8-one : (y : ℕ) → ltb y 128 ≡ true → utf8 y ≡ y ∷ []
-unfolding utf8
-utf8-one y l = rw (utf8, l)
-
 -- the code points of a text
 pub record Points (m u : List ℕ) : Type 0 where
   pub points : List ℕ
@@ -93,7 +89,7 @@ points-back (x ∷ u) m e = go (points-back u) (form x)
         let a : lower x ≡ lower y = head-eq-of-cons-eq q in
         let r = ih n (tail-eq-of-cons-eq q) in
         let l : ltb y 128 ≡ true = sym (basic-case y) ∙ (ap (λ (z : ℕ). ltb z 128) (sym a) ∙ (basic-case x ∙ lt-ltb x 128 h)) in
-        let b : utf8 y ≡ y ∷ [] = utf8-one y l in
+        let b : utf8 y ≡ y ∷ [] = utf8-low y (ltb-true y 128 l) in
         record {
           points = y ∷ r .points;
           bytes = ap (λ (k : List ℕ). y ∷ k) (r .bytes) ∙ ap (λ (k : List ℕ). k ++ utf8s (r .points)) (sym b);

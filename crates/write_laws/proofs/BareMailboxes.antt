@@ -145,16 +145,16 @@ module _ (l d x : List ℕ) (D : whole domain d ≡ true) where
   unfolding pvalue
   written-mailbox = let n = domain-no-at d D in rw (local-of d n l, domain-of d n l)
 
-  pub bare-mailbox : Delimited x → pvalue mailbox ≡ l ++ (code "@" ∷ d) → propertyValue ((l ++ (code "@" ∷ d)) ++ x) ≡ got mailbox (length (l ++ (code "@" ∷ d)))
-  bare-mailbox g e =
+  pub mailbox-bare-when : Delimited x → pvalue mailbox ≡ l ++ (code "@" ∷ d) → propertyValue ((l ++ (code "@" ∷ d)) ++ x) ≡ got mailbox (length (l ++ (code "@" ∷ d)))
+  mailbox-bare-when g e =
       let w : length (bareOr (isBareLocal l) l ++ (64 ∷ d)) ≡ length (l ++ (64 ∷ d)) = ap length (sym written-mailbox ∙ e) in
       let i : length (bareOr (isBareLocal l) l ++ (64 ∷ d)) ≡ length (bareOr (isBareLocal l) l) + length (64 ∷ d) = length-append (bareOr (isBareLocal l) l) (64 ∷ d) in
       let j : length (l ++ (64 ∷ d)) ≡ length l + length (64 ∷ d) = length-append l (64 ∷ d) in
       bare-mailbox-reads l d (bare-or (isBareLocal l) l (omega (arith, w, i, j))) D x g
 
-  pub mailbox-bare : propertyValue ((l ++ (code "@" ∷ d)) ++ x) ≡ got mailbox (length (l ++ (code "@" ∷ d))) → pvalue mailbox ≡ l ++ (code "@" ∷ d)
+  pub mailbox-when-bare : propertyValue ((l ++ (code "@" ∷ d)) ++ x) ≡ got mailbox (length (l ++ (code "@" ∷ d))) → pvalue mailbox ≡ l ++ (code "@" ∷ d)
   unfolding bareOr
-  mailbox-bare h = written-mailbox ∙ rw (mailbox-whole h)
+  mailbox-when-bare h = written-mailbox ∙ rw (mailbox-whole h)
 
   pub mailbox-quoted : Delimited x → (propertyValue ((l ++ (code "@" ∷ d)) ++ x) ≡ got mailbox (length (l ++ (code "@" ∷ d))) → ⊥)
       → pvalue mailbox ≡ quote l ++ (code "@" ∷ d)

@@ -165,13 +165,13 @@ module _ (t x : List ℕ) where
   whole-identifier d e = let r = identifier-reads t (identifier-text t e) x d in rw e at r
 
   -- written bare exactly where it reads back as itself
-  pub bare-identifier : Delimited x → piece (identified t) ≡ code " " ∷ t → identifier (code " " ∷ (t ++ x)) ≡ got t (suc (length t))
+  pub identifier-bare-when : Delimited x → piece (identified t) ≡ code " " ∷ t → identifier (code " " ∷ (t ++ x)) ≡ got t (suc (length t))
   unfolding piece
-  bare-identifier d e = whole-identifier d (bare-or (whole identifierToken t) t (ap length (tail-eq-of-cons-eq e)))
+  identifier-bare-when d e = whole-identifier d (bare-or (whole identifierToken t) t (ap length (tail-eq-of-cons-eq e)))
 
-  pub identifier-bare : identifier (code " " ∷ (t ++ x)) ≡ got t (suc (length t)) → piece (identified t) ≡ code " " ∷ t
+  pub identifier-when-bare : identifier (code " " ∷ (t ++ x)) ≡ got t (suc (length t)) → piece (identified t) ≡ code " " ∷ t
   unfolding piece bareOr
-  identifier-bare h = rw (identifier-whole h)
+  identifier-when-bare h = rw (identifier-whole h)
 
   -- and else as a quoted string
   pub identifier-quoted : Delimited x → (identifier (code " " ∷ (t ++ x)) ≡ got t (suc (length t)) → ⊥) → piece (identified t) ≡ code " " ∷ quote t
@@ -232,13 +232,13 @@ module _ (t x : List ℕ) where
       let r = reason-reads t (token-text t e) x d in
       rw n (rw e at r)
 
-  pub bare-reason : Delimited x → piece (reasoned t) ≡ bytes " reason=" ++ t → reason (bytes " reason=" ++ (t ++ x)) ≡ got t (8 + length t)
+  pub reason-bare-when : Delimited x → piece (reasoned t) ≡ bytes " reason=" ++ t → reason (bytes " reason=" ++ (t ++ x)) ≡ got t (8 + length t)
   unfolding piece
-  bare-reason d e = whole-reason d (bare-or (whole token t) t (ap (λ (r : List ℕ). length (drop 8 r)) e))
+  reason-bare-when d e = whole-reason d (bare-or (whole token t) t (ap (λ (r : List ℕ). length (drop 8 r)) e))
 
-  pub reason-bare : reason (bytes " reason=" ++ (t ++ x)) ≡ got t (8 + length t) → piece (reasoned t) ≡ bytes " reason=" ++ t
+  pub reason-when-bare : reason (bytes " reason=" ++ (t ++ x)) ≡ got t (8 + length t) → piece (reasoned t) ≡ bytes " reason=" ++ t
   unfolding piece bareOr
-  reason-bare h = rw (reason-whole h)
+  reason-when-bare h = rw (reason-whole h)
 
   pub reason-quoted : Delimited x → (reason (bytes " reason=" ++ (t ++ x)) ≡ got t (8 + length t) → ⊥) → piece (reasoned t) ≡ bytes " reason=" ++ quote t
   unfolding piece bareOr
