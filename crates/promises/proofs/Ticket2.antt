@@ -3,7 +3,7 @@
 use Prim.Native.Char.{code}
 use Prim.Native.Nat.{ℕ, _≤_, _<_}
 use native.Mathlib.Omega.{arith}
-use mathlib.Core.Path.{_≡_, refl, ap}
+use mathlib.Core.Path.{_≡_, refl, sym, ap}
 use mathlib.Core.Bool.{true, false, _&&_}
 use mathlib.Core.List.{List, [], _∷_, _++_}
 use mathlib.Core.Option.{some}
@@ -20,7 +20,7 @@ use Rattle.lexis_rules.specs.Pieces.{token}
 use Rattle.punycode_rules.specs.Punycode.{basic}
 use Rattle.punycode_rules.specs.Unicode.{utf8s}
 use Rattle.punycode_rules.specs.Labels.{decoded, prefixed, labels, anyPrefixed}
-use Rattle.identifier_rules.specs.Identifier.{identifierByte, identifier, sameIdentifier}
+use Rattle.identifier_rules.specs.Identifier.{identifierByte, identifierToken, identifier, sameIdentifier}
 use Rattle.identifier_laws.proofs.Equality as identifiers
 use Rattle.identifier_laws.proofs.EqualExactly as equal
 use Rattle.identifier_laws.proofs.StaysReadable as readable
@@ -113,6 +113,11 @@ identifier-byte x = (readable.identifier-byte-high x, readable.identifier-byte-l
 pub other-tokens : (xs : List ℕ) → all (λ b. ltb b 128) (take (token xs) xs) ≡ true
 other-tokens = readable.token-all-low
 
+-- bücher is one token as an identifier, and elsewhere its token is b
+token-example : (identifierToken (98 ∷ 195 ∷ 188 ∷ bytes "cher;") ≡ 7) × (token (98 ∷ 195 ∷ 188 ∷ bytes "cher;") ≡ 1)
+unfolding opened
+token-example = (refl, refl)
+
 -- ==== so fewer bodies answer 7
 
 -- what document 01's rule read is read, with the same text
@@ -128,14 +133,23 @@ pub seven-before : (body old : List ℕ) → reports body old .answer .number �
 seven-before body old z =
     readable.plain-nothing body (seven-when body (report-0-7-8-9 body old 7 (λ q. omega (arith, q)) (λ q. omega (arith, q)) .0 z .1 .0))
 
+seven-example : readable.plainIdentifier (bytes " ; none") ≡ nothing
+unfolding body-opened.opened
+seven-example = seven-before (bytes " ; none") [] refl
+
 -- and some that did don't: bücher is an identifier now
 fewer-example : (readable.plainIdentifier (98 ∷ 195 ∷ 188 ∷ bytes "cher; none") ≡ nothing) × (reports (98 ∷ 195 ∷ 188 ∷ bytes "cher; none") (bytes "....................") .answer .number ≡ 0)
 unfolding body-opened.opened readable.plainIdentifier
 fewer-example = (refl, refl)
 
+-- mx.example was one, and a/x wasn't
 stays-example : identifier (bytes " mx.example; none") ≡ got (bytes "mx.example") 11
 unfolding opened readable.plainIdentifier
 stays-example = identifier-stays (bytes " mx.example; none") (bytes "mx.example") 11 refl
+
+ascii-example : readable.plainIdentifier (bytes "a/x; none") ≡ nothing
+unfolding opened
+ascii-example = sym (identifier-ascii (bytes "a/x; none") refl)
 
 -- ==== List entries may now hold valid UTF-8 from 128 up; other bytes there are still 5
 
