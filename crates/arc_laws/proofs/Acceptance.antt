@@ -65,7 +65,7 @@ module _ (n : ℕ) (t : List (List ℕ)) (w : Shaped t) (m : n ≤ lastInstance)
   front : length (take n t) ≡ n
   front = length-take-le n t (omega (arith, w .rows))
 
-  places-full : anyEmpty (take n t) ≡ false → Full n t
+  pub places-full : anyEmpty (take n t) ≡ false → Full n t
   places-full e k a i l h =
       let j : i - 1 < n = omega arith in
       let r : rowEmpty (getD t (i - 1) []) ≡ false = rw (getD-take n t (i - 1) [] j) at (table-full (take n t) e (i - 1) (omega (arith, front))) in
@@ -119,17 +119,17 @@ prescribed-low i = go (eqb i 1)
     go true = omega arith
     go false = omega arith
 
-abbrev Prescribed : ℕ → List ℕ → Type 0
+abbrev pub Prescribed : ℕ → List ℕ → Type 0
 Prescribed n cs = (i : ℕ) → 1 ≤ i → i ≤ n → getD cs (i - 1) 0 ≡ cvPrescribed i
 
 module _ (n : ℕ) (cs : List ℕ) (m : n ≤ length cs) where
-  values-prescribed : prescribed (take n cs) ≡ true → Prescribed n cs
+  pub values-prescribed : prescribed (take n cs) ≡ true → Prescribed n cs
   values-prescribed e i l h =
       let s : suc (i - 1) ≡ i = omega arith in
       sym (getD-take n cs (i - 1) 0 (omega arith))
       ∙ (prescribed-at (take n cs) e (i - 1) (omega (arith, length-take-le n cs m)) ∙ ap cvPrescribed s)
 
-  prescribed-values : Prescribed n cs → prescribed (take n cs) ≡ true
+  pub prescribed-values : Prescribed n cs → prescribed (take n cs) ≡ true
   prescribed-values f = at-prescribed (take n cs) (λ j h. value j (rw (length-take-le n cs m) at h))
     where
       value : (j : ℕ) → j < n → getD (take n cs) j 0 ≡ cvPrescribed (suc j)

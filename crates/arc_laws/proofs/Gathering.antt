@@ -49,7 +49,7 @@ pub record Told (fs : List Field) (z : Sets) : Type 0 where
   pub cv : z .repeated ≡ 0 → (f : Field) → List·Memᴰ f fs → (x : Said) (m : ℕ) → kindOf f ≡ Seal → saidBy f ≡ got x m
       → getD (z .cvs) (x .instance - 1) 0 ≡ x .cv
 
-told-none : Told [] noSets
+pub told-none : Told [] noSets
 unfolding select
 told-none =
     record {
@@ -78,7 +78,7 @@ first-some a n e = go (eqb a 0) refl
     go false q = eqb-false a 0 q (rw q at e)
 
 -- the higher of two
-higher : (h a : ℕ) → (h ≤ cond (ltb h a) a h) × (a ≤ cond (ltb h a) a h)
+pub higher : (h a : ℕ) → (h ≤ cond (ltb h a) a h) × (a ≤ cond (ltb h a) a h)
 higher h a = go (ltb h a) refl
   where
     go : (t : Bool) → ltb h a ≡ t → (h ≤ cond (ltb h a) a h) × (a ≤ cond (ltb h a) a h)
@@ -92,7 +92,7 @@ noted-other n Signature body z e = absurd (no-true (sym e))
 noted-other n Seal body z e = absurd (no-true (sym e))
 noted-other n Other body z e = refl
 
-noted-arc : (n : ℕ) (k : Kind) (body : List ℕ) (z : Sets) → isArc k ≡ true → noted n k body z ≡ recorded n k (says k body) z
+pub noted-arc : (n : ℕ) (k : Kind) (body : List ℕ) (z : Sets) → isArc k ≡ true → noted n k body z ≡ recorded n k (says k body) z
 noted-arc n Results body z e = refl
 noted-arc n Signature body z e = refl
 noted-arc n Seal body z e = refl
@@ -330,7 +330,7 @@ module _ (fs : List Field) (f : Field) where
 
   -- ==== any field
 
-  told-noted : (n : ℕ) (z : Sets) → Told fs z → Told more (noted (suc n) (kindOf f) (bodyOf f) z)
+  pub told-noted : (n : ℕ) (z : Sets) → Told fs z → Told more (noted (suc n) (kindOf f) (bodyOf f) z)
   told-noted n z w = go (isArc (kindOf f)) refl
     where
       said : isArc (kindOf f) ≡ true → (g : Got Said) → saidBy f ≡ g → Told more (recorded (suc n) (kindOf f) g z)

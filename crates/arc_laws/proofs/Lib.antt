@@ -1,7 +1,10 @@
 pub mod Counting
 pub mod Storing
 pub mod Gathering
+pub mod FirstFields
 pub mod Acceptance
+pub mod InstanceReasons
+pub mod ReasonsExactly
 pub mod Answering
 pub mod BuiltExactly
 pub mod Numbers

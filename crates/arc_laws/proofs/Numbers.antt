@@ -214,6 +214,18 @@ module _ (block vs : List ℕ) where
         | whole l g m p w q ↦ absurd (let y : _≡_ {A = ℕ} 0 1 = ap (λ (x : Outcome). elim x [ none ↦ 0 | failed a b ↦ 1 | built c ↦ 0 ]) (sym p ∙ o) in omega arith)
       ]
 
+  -- only a failed chain has a reason
+  pub reason-when : (r : ℕ) → 1 ≤ r → judge block vs .reason ≡ r → (f : ℕ) × (outcome (fields block .items) ≡ failed r f)
+  reason-when r h e =
+      elim (way block vs) [
+        | long l q ↦ absurd (let z : 0 ≡ r = sym (ap (λ (x : Answer). x .reason) q) ∙ e in omega arith)
+        | cut l m g i j q ↦ absurd (let z : 0 ≡ r = sym (ap (λ (x : Answer). x .reason) q) ∙ e in omega arith)
+        | without l g p q ↦ absurd (let z : 0 ≡ r = sym (ap (λ (x : Answer). x .reason) q) ∙ e in omega arith)
+        | fails l g a b p q ↦ (b, p ∙ ap (λ (c : ℕ). failed c b) (sym (ap (λ (x : Answer). x .reason) q) ∙ e))
+        | bad l g m p w q ↦ absurd (let z : 0 ≡ r = sym (ap (λ (x : Answer). x .reason) q) ∙ e in omega arith)
+        | whole l g m p w q ↦ absurd (let z : 0 ≡ r = sym (ap (λ (x : Answer). x .reason) q) ∙ e in omega arith)
+      ]
+
   -- the place is that of the walk for 2 to 4, and else 0
   pub place-else : (judge block vs .number ≤ 1) ⊎ (5 ≤ judge block vs .number) → judge block vs .place ≡ 0
   place-else h =

@@ -22,20 +22,20 @@ shown = tt
 -- ==== fields
 
 -- a field by its name and its body
-abbrev field : List ℕ → List ℕ → Field
+abbrev pub field : List ℕ → List ℕ → Field
 field n b = record { bytes = n ++ (bytes ":" ++ (b ++ bytes "\r\n")); name = length n; body = length n + 1 }
 
-abbrev results : List ℕ → Field
+abbrev pub results : List ℕ → Field
 results b = field (bytes "ARC-Authentication-Results") b
 
-abbrev signature : List ℕ → Field
+abbrev pub signature : List ℕ → Field
 signature b = field (bytes "ARC-Message-Signature") b
 
-abbrev seal : List ℕ → Field
+abbrev pub seal : List ℕ → Field
 seal b = field (bytes "ARC-Seal") b
 
 -- one set
-abbrev one : List Field
+abbrev pub one : List Field
 one = results (bytes "i=1;") ∷ signature (bytes "i=1;a=;b=;bh=;d=;h=;s=") ∷ seal (bytes "i=1;a=;b=;d=;s=;cv=none") ∷ []
 
 -- .. and behind it a field of another name, one that can't be read, and one at another instance

@@ -2,3 +2,4 @@ pub mod Unfolding
 pub mod FieldExamples
 pub mod Samples
 pub mod AcceptedExamples
+pub mod ReasonExamples

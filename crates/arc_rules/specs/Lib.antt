@@ -1,5 +1,6 @@
 pub mod Sets
 pub mod Chain
 pub mod Accepted
+pub mod Reasons
 pub mod Answers
 pub mod Terms

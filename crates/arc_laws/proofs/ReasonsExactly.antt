@@ -1,0 +1,257 @@
+-- A chain fails for the first reason that applies: each outcome comes with what the fields say of the reasons, in their order. So there is reason (x)
+-- exactly where (x) applies and none before it does, and it names the field that the reading of (x) gives.
+use Prim.Native.Nat.{ℕ, zero, suc, _-_, _≤_}
+use native.Mathlib.Omega.{arith}
+use mathlib.Core.Path.{_≡_, refl, sym, ap, _∙_}
+use mathlib.Core.Bool.{Bool, true, false, not}
+use mathlib.Core.List.{List}
+use lib.Dec.{eqb}
+use lib.ListN.{getD, take}
+use Rattle.base_sequences.proofs.Booleans.{both}
+use Rattle.block_rules.specs.Fields.{Field, fields}
+use Rattle.arc_rules.specs.Chain.{Sets, noSets, gathered, Outcome, none, failed, built, anyEmpty, prescribed, completeOutcome, outcomeOf, outcome, Answer, judge}
+use Rattle.arc_rules.specs.Reasons.{firstUnread, firstRepeating, highestInstance, lacks, anyInstance, emptyPlace, lastFails, otherValue}
+use Rattle.arc_rules.specs.Terms.{Known}
+use Rattle.arc_laws.proofs.Gathering.{Told, sets-told}
+use Rattle.arc_laws.proofs.FirstFields.{unread-told, repeated-told}
+use Rattle.arc_laws.proofs.InstanceReasons.{highest-told, empty-told, fail-told, value-told, no-instance}
+
+-- ==== the first reason that applies
+
+-- what the fields say of the reasons, in order, and the outcome
+data First (fs : List Field) : Type 0 where
+  a : (n : ℕ) → firstUnread fs ≡ suc n → outcome fs ≡ failed 1 (suc n) → First fs
+  b : firstUnread fs ≡ 0 → (n : ℕ) → firstRepeating fs ≡ suc n → outcome fs ≡ failed 2 (suc n) → First fs
+  c : firstUnread fs ≡ 0 → firstRepeating fs ≡ 0 → emptyPlace fs ≡ true → outcome fs ≡ failed 3 0 → First fs
+  d : firstUnread fs ≡ 0 → firstRepeating fs ≡ 0 → emptyPlace fs ≡ false → lastFails fs ≡ true → outcome fs ≡ failed 4 0 → First fs
+  e : firstUnread fs ≡ 0 → firstRepeating fs ≡ 0 → emptyPlace fs ≡ false → lastFails fs ≡ false → otherValue fs ≡ true → outcome fs ≡ failed 5 0
+      → First fs
+  no : firstUnread fs ≡ 0 → firstRepeating fs ≡ 0 → emptyPlace fs ≡ false → lastFails fs ≡ false → otherValue fs ≡ false
+      → ((r f : ℕ) → outcome fs ≡ failed r f → ⊥) → First fs
+
+none-not : (r f : ℕ) → none ≡ failed r f → ⊥
+none-not r f q = let o : _≡_ {A = ℕ} 0 1 = cc in omega arith
+
+built-not : (n r f : ℕ) → built n ≡ failed r f → ⊥
+built-not n r f q = let o : _≡_ {A = ℕ} 0 1 = cc in omega arith
+
+module _ (fs : List Field) where
+  abbrev sets : Sets
+  sets = gathered 0 fs noSets
+
+  told : Told fs sets
+  told = sets-told fs
+
+  -- N the highest instance
+  abbrev highest : ℕ
+  highest = highestInstance fs
+
+  -- neither (a) nor (b)
+  module _ (u : firstUnread fs ≡ 0) (r : firstRepeating fs ≡ 0) where
+    read : sets .unreadable ≡ 0
+    read = unread-told fs ∙ u
+
+    once : sets .repeated ≡ 0
+    once = repeated-told fs ∙ r
+
+    module _ (m : ℕ) (h : highest ≡ suc m) where
+      complete : outcome fs ≡ completeOutcome highest sets
+      unfolding outcomeOf completeOutcome
+      complete =
+          let w : sets .highest ≡ suc m = highest-told fs sets told ∙ h in
+          let o : outcome fs ≡ completeOutcome (suc m) sets = rw (outcomeOf, read, once, w) in
+          o ∙ ap (λ (k : ℕ). completeOutcome k sets) (sym h)
+
+      by-value : emptyPlace fs ≡ false → lastFails fs ≡ false → (v : Bool) → otherValue fs ≡ v → First fs
+      unfolding completeOutcome
+      by-value p l v q = go v q (value-told fs sets told once p ∙ ap not q)
+        where
+          x : anyEmpty (take highest (sets .places)) ≡ false
+          x = empty-told fs sets told ∙ p
+
+          y : eqb (getD (sets .cvs) (highest - 1) 0) 3 ≡ false
+          y = fail-told fs sets told once p (omega (arith, h)) ∙ l
+
+          go : (v : Bool) → otherValue fs ≡ v → prescribed (take highest (sets .cvs)) ≡ not v → First fs
+          go true q w = e u r p l q (complete ∙ rw (completeOutcome, x, y, w))
+          go false q w =
+              let o : outcome fs ≡ built highest = complete ∙ rw (completeOutcome, x, y, w) in
+              no u r p l q (λ s f i. built-not highest s f (sym o ∙ i))
+
+      by-last : emptyPlace fs ≡ false → (v : Bool) → lastFails fs ≡ v → First fs
+      unfolding completeOutcome
+      by-last p true l =
+          let x = empty-told fs sets told ∙ p in
+          let y = fail-told fs sets told once p (omega (arith, h)) ∙ l in
+          d u r p l (complete ∙ rw (completeOutcome, x, y))
+      by-last p false l = by-value p l (otherValue fs) refl
+
+      by-place : (v : Bool) → emptyPlace fs ≡ v → First fs
+      unfolding completeOutcome
+      by-place true p = let x = empty-told fs sets told ∙ p in c u r p (complete ∙ rw (completeOutcome, x))
+      by-place false p = by-last p (lastFails fs) refl
+
+    by-instance : (m : ℕ) → highest ≡ m → First fs
+    unfolding outcomeOf anyInstance
+    by-instance (suc m) h = by-place m h (emptyPlace fs) refl
+    by-instance zero h =
+        let w : sets .highest ≡ 0 = highest-told fs sets told ∙ h in
+        let o : outcome fs ≡ none = rw (outcomeOf, read, once, w) in
+        no u r (ap (anyInstance (lacks fs)) h) (no-instance _ fs h) (no-instance _ fs h) (λ s f i. none-not s f (sym o ∙ i))
+
+  by-repeated : firstUnread fs ≡ 0 → (m : ℕ) → firstRepeating fs ≡ m → First fs
+  unfolding outcomeOf
+  by-repeated u zero r = by-instance u r highest refl
+  by-repeated u (suc m) r = let x = unread-told fs ∙ u in let y = repeated-told fs ∙ r in b u m r (rw (outcomeOf, x, y))
+
+  by-unread : (m : ℕ) → firstUnread fs ≡ m → First fs
+  unfolding outcomeOf
+  by-unread (suc m) u = let x = unread-told fs ∙ u in a m u (rw (outcomeOf, x))
+  by-unread zero u = by-repeated u (firstRepeating fs) refl
+
+  first : First fs
+  first = by-unread (firstUnread fs) refl
+
+-- ==== each reason exactly where it applies and none before it does
+
+abbrev reasonOf : Outcome → ℕ
+reasonOf none = 0
+reasonOf (failed r f) = r
+reasonOf (built n) = 0
+
+-- an outcome has one reason
+one-reason : {A : Type 0} (o : Outcome) (r s f g : ℕ) → o ≡ failed r f → o ≡ failed s g → (r ≡ s → ⊥) → A
+one-reason o r s f g p q ne = absurd (ne (ap reasonOf (sym p ∙ q)))
+
+module _ (fs : List Field) where
+  -- there is no reason but (a) to (e)
+  pub reasons : (r f : ℕ) → outcome fs ≡ failed r f → (1 ≤ r) × (r ≤ 5)
+  reasons r f q =
+      elim (first fs) [
+        | a n u o ↦ given 1 (suc n) o (omega arith)
+        | b u n i o ↦ given 2 (suc n) o (omega arith)
+        | c u i p o ↦ given 3 0 o (omega arith)
+        | d u i p l o ↦ given 4 0 o (omega arith)
+        | e u i p l v o ↦ given 5 0 o (omega arith)
+        | no u i p l v o ↦ absurd (o r f q)
+      ]
+    where
+      given : (s g : ℕ) → outcome fs ≡ failed s g → (1 ≤ s) × (s ≤ 5) → (1 ≤ r) × (r ≤ 5)
+      given s g o h =
+          let z : s ≡ r = ap reasonOf (sym o ∙ q) in
+          rw (← z) h
+
+  -- (a) an unreadable field: the first is named
+  pub unread-when : (f : ℕ) → outcome fs ≡ failed 1 f → 1 ≤ firstUnread fs
+  unread-when f q =
+      elim (first fs) [
+        | a n u o ↦ omega (arith, u)
+        | b u n i o ↦ one-reason _ 2 1 (suc n) f o q (λ z. omega (arith, z))
+        | c u i p o ↦ one-reason _ 3 1 0 f o q (λ z. omega (arith, z))
+        | d u i p l o ↦ one-reason _ 4 1 0 f o q (λ z. omega (arith, z))
+        | e u i p l v o ↦ one-reason _ 5 1 0 f o q (λ z. omega (arith, z))
+        | no u i p l v o ↦ absurd (o 1 f q)
+      ]
+
+  pub when-unread : 1 ≤ firstUnread fs → outcome fs ≡ failed 1 (firstUnread fs)
+  when-unread h =
+      elim (first fs) [
+        | a n u o ↦ o ∙ ap (failed 1) (sym u)
+        | b u n i o ↦ absurd (omega (arith, h, u))
+        | c u i p o ↦ absurd (omega (arith, h, u))
+        | d u i p l o ↦ absurd (omega (arith, h, u))
+        | e u i p l v o ↦ absurd (omega (arith, h, u))
+        | no u i p l v o ↦ absurd (omega (arith, h, u))
+      ]
+
+  -- (b) the first repeated kind, in block order, at one instance: the repeating field is named
+  pub repeated-when : (f : ℕ) → outcome fs ≡ failed 2 f → (firstUnread fs ≡ 0) × (1 ≤ firstRepeating fs)
+  repeated-when f q =
+      elim (first fs) [
+        | a n u o ↦ one-reason _ 1 2 (suc n) f o q (λ z. omega (arith, z))
+        | b u n i o ↦ (u, omega (arith, i))
+        | c u i p o ↦ one-reason _ 3 2 0 f o q (λ z. omega (arith, z))
+        | d u i p l o ↦ one-reason _ 4 2 0 f o q (λ z. omega (arith, z))
+        | e u i p l v o ↦ one-reason _ 5 2 0 f o q (λ z. omega (arith, z))
+        | no u i p l v o ↦ absurd (o 2 f q)
+      ]
+
+  pub when-repeated : (firstUnread fs ≡ 0) × (1 ≤ firstRepeating fs) → outcome fs ≡ failed 2 (firstRepeating fs)
+  when-repeated h =
+      elim (first fs) [
+        | a n u o ↦ absurd (omega (arith, h .0, u))
+        | b u n i o ↦ o ∙ ap (failed 2) (sym i)
+        | c u i p o ↦ absurd (omega (arith, h .1, i))
+        | d u i p l o ↦ absurd (omega (arith, h .1, i))
+        | e u i p l v o ↦ absurd (omega (arith, h .1, i))
+        | no u i p l v o ↦ absurd (omega (arith, h .1, i))
+      ]
+
+  -- (c) with N the highest instance, an empty place in 1 to N
+  pub empty-when : (f : ℕ) → outcome fs ≡ failed 3 f → (firstUnread fs ≡ 0) × ((firstRepeating fs ≡ 0) × (emptyPlace fs ≡ true))
+  empty-when f q =
+      elim (first fs) [
+        | a n u o ↦ one-reason _ 1 3 (suc n) f o q (λ z. omega (arith, z))
+        | b u n i o ↦ one-reason _ 2 3 (suc n) f o q (λ z. omega (arith, z))
+        | c u i p o ↦ (u, (i, p))
+        | d u i p l o ↦ one-reason _ 4 3 0 f o q (λ z. omega (arith, z))
+        | e u i p l v o ↦ one-reason _ 5 3 0 f o q (λ z. omega (arith, z))
+        | no u i p l v o ↦ absurd (o 3 f q)
+      ]
+
+  pub when-empty : (firstUnread fs ≡ 0) × ((firstRepeating fs ≡ 0) × (emptyPlace fs ≡ true)) → outcome fs ≡ failed 3 0
+  when-empty h =
+      elim (first fs) [
+        | a n u o ↦ absurd (omega (arith, h .0, u))
+        | b u n i o ↦ absurd (omega (arith, h .1 .0, i))
+        | c u i p o ↦ o
+        | d u i p l o ↦ absurd (both (emptyPlace fs) p (h .1 .1))
+        | e u i p l v o ↦ absurd (both (emptyPlace fs) p (h .1 .1))
+        | no u i p l v o ↦ absurd (both (emptyPlace fs) p (h .1 .1))
+      ]
+
+  -- (d) the seal at N has cv fail
+  pub last-when : (f : ℕ) → outcome fs ≡ failed 4 f → (firstUnread fs ≡ 0) × ((firstRepeating fs ≡ 0) × ((emptyPlace fs ≡ false) × (lastFails fs ≡ true)))
+  last-when f q =
+      elim (first fs) [
+        | a n u o ↦ one-reason _ 1 4 (suc n) f o q (λ z. omega (arith, z))
+        | b u n i o ↦ one-reason _ 2 4 (suc n) f o q (λ z. omega (arith, z))
+        | c u i p o ↦ one-reason _ 3 4 0 f o q (λ z. omega (arith, z))
+        | d u i p l o ↦ (u, (i, (p, l)))
+        | e u i p l v o ↦ one-reason _ 5 4 0 f o q (λ z. omega (arith, z))
+        | no u i p l v o ↦ absurd (o 4 f q)
+      ]
+
+  pub when-last : (firstUnread fs ≡ 0) × ((firstRepeating fs ≡ 0) × ((emptyPlace fs ≡ false) × (lastFails fs ≡ true))) → outcome fs ≡ failed 4 0
+  when-last h =
+      elim (first fs) [
+        | a n u o ↦ absurd (omega (arith, h .0, u))
+        | b u n i o ↦ absurd (omega (arith, h .1 .0, i))
+        | c u i p o ↦ absurd (both (emptyPlace fs) (h .1 .1 .0) p)
+        | d u i p l o ↦ o
+        | e u i p l v o ↦ absurd (both (lastFails fs) l (h .1 .1 .1))
+        | no u i p l v o ↦ absurd (both (lastFails fs) l (h .1 .1 .1))
+      ]
+
+  -- (e) the seal at 1 isn't none or a later one isn't pass
+  pub value-when : (f : ℕ) → outcome fs ≡ failed 5 f → (firstUnread fs ≡ 0) × ((firstRepeating fs ≡ 0) × ((emptyPlace fs ≡ false) × ((lastFails fs ≡ false) × (otherValue fs ≡ true))))
+  value-when f q =
+      elim (first fs) [
+        | a n u o ↦ one-reason _ 1 5 (suc n) f o q (λ z. omega (arith, z))
+        | b u n i o ↦ one-reason _ 2 5 (suc n) f o q (λ z. omega (arith, z))
+        | c u i p o ↦ one-reason _ 3 5 0 f o q (λ z. omega (arith, z))
+        | d u i p l o ↦ one-reason _ 4 5 0 f o q (λ z. omega (arith, z))
+        | e u i p l v o ↦ (u, (i, (p, (l, v))))
+        | no u i p l v o ↦ absurd (o 5 f q)
+      ]
+
+  pub when-value : (firstUnread fs ≡ 0) × ((firstRepeating fs ≡ 0) × ((emptyPlace fs ≡ false) × ((lastFails fs ≡ false) × (otherValue fs ≡ true)))) → outcome fs ≡ failed 5 0
+  when-value h =
+      elim (first fs) [
+        | a n u o ↦ absurd (omega (arith, h .0, u))
+        | b u n i o ↦ absurd (omega (arith, h .1 .0, i))
+        | c u i p o ↦ absurd (both (emptyPlace fs) (h .1 .1 .0) p)
+        | d u i p l o ↦ absurd (both (lastFails fs) (h .1 .1 .1 .0) l)
+        | e u i p l v o ↦ o
+        | no u i p l v o ↦ absurd (both (otherValue fs) v (h .1 .1 .1 .1))
+      ]
