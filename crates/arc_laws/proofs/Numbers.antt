@@ -9,6 +9,7 @@ use mathlib.Core.Logic.{_⊎_, ⊎-elim}
 use borrow.Author.Tests.{ltb-true, ltb-false}
 use lib.Dec.{ltb}
 use lib.ListN.{length}
+use Rattle.base_sequences.proofs.Booleans.{both}
 use Rattle.lexis_rules.specs.Limits.{byteLimit}
 use Rattle.block_rules.specs.Fields.{fields}
 use Rattle.block_laws.proofs.Fields.{fields-numbers}
@@ -149,6 +150,32 @@ module _ (block vs : List ℕ) where
         | fails l f r g p q ↦ absurd (let y : _≡_ {A = ℕ} 0 1 = ap (λ (x : Outcome). elim x [ none ↦ 0 | failed r g ↦ 0 | built k ↦ 1 ]) (sym p ∙ o) in omega arith)
         | bad l f m p w q ↦ q
         | whole l f m p w q ↦ built-one m n (outcome (fields block .items)) vs p o w v
+      ]
+
+  -- done: the fields are all there, and where their chain is built, the verdicts are good
+  pub zero-when : judge block vs .number ≡ 0 → Known block × ((n : ℕ) → outcome (fields block .items) ≡ built n → validFor n vs ≡ true)
+  zero-when e =
+      elim (way block vs) [
+        | long l q ↦ other _ _ 0 q e (λ z. omega arith)
+        | cut l m f i j q ↦ other _ _ 0 q e (λ z. omega arith)
+        | without l f p q ↦ ((l, f), λ n o. absurd (let y : _≡_ {A = ℕ} 0 1 = ap (λ (x : Outcome). elim x [ none ↦ 0 | failed r g ↦ 0 | built k ↦ 1 ]) (sym p ∙ o) in omega arith))
+        | fails l f r g p q ↦ ((l, f), λ n o. absurd (let y : _≡_ {A = ℕ} 0 1 = ap (λ (x : Outcome). elim x [ none ↦ 0 | failed r g ↦ 0 | built k ↦ 1 ]) (sym p ∙ o) in omega arith))
+        | bad l f m p w q ↦ other _ _ 0 q e (λ z. omega arith)
+        | whole l f m p w q ↦ (
+          (l, f),
+          λ n o. (let z : m ≡ n = ap (λ (x : Outcome). elim x [ none ↦ 0 | failed r g ↦ 0 | built k ↦ k ]) (sym p ∙ o) in rw (← z) w),
+        )
+      ]
+
+  pub when-zero : Known block → ((n : ℕ) → outcome (fields block .items) ≡ built n → validFor n vs ≡ true) → judge block vs .number ≡ 0
+  when-zero k h =
+      elim (way block vs) [
+        | long l q ↦ absurd (omega (arith, k .0))
+        | cut l m f i j q ↦ absurd (omega (arith, k .1))
+        | without l f p q ↦ ap (λ (x : Answer). x .number) q
+        | fails l f r g p q ↦ ap (λ (x : Answer). x .number) q
+        | bad l f m p w q ↦ absurd (both (validFor m vs) w (h m p))
+        | whole l f m p w q ↦ ap (λ (x : Answer). x .number) q
       ]
 
   -- the numbers are 0, 1 to 4 and 10

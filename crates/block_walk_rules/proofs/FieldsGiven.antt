@@ -5,13 +5,16 @@ use native.Mathlib.Nat.{zero-add}
 use native.Mathlib.Omega.{arith}
 use mathlib.Core.Path.{_≡_, refl, sym, ap, _∙_}
 use mathlib.Core.List.{List, [], _∷_, _++_, append-assoc, append-nil}
-use borrow.Author.Tests.{lt-ltb, le-ltb}
+use mathlib.Core.Bool.{Bool, true, false}
+use borrow.Author.Tests.{lt-ltb, le-ltb, ltb-true, ltb-false}
+use lib.Dec.{ltb}
+use Rattle.base_readers.specs.Walks.{Walked}
 use lib.ListN.{length, drop, take, length-append}
 use lib.Seq.{take-append-seam, drop-append-seam}
 use Rattle.lexis_rules.specs.Limits.{byteLimit}
 use Rattle.block_rules.specs.Fields.{Field, fieldLimit, fields, bytesOf}
 use Rattle.block_rules.specs.Sound.{AllSound}
-use Rattle.block_laws.proofs.Fields.{fields-fine, walk-back}
+use Rattle.block_laws.proofs.Fields.{fields-numbers, fields-fine, walk-back}
 use Rattle.block_walk_rules.specs.declared.Step.{Step}
 use Rattle.block_walk_rules.specs.declared.Step.the-variants.{Last}
 use Rattle.block_walk_rules.specs.Steps.{given, lastOf, placed, firstFrom, stepFrom, pastOf, pastFrom}
@@ -108,6 +111,14 @@ given-sound block h z =
     rw (given-fields block (le-ltb byteLimit (length block) h)) (w .bytes, ap lastOf b)
 
 module _ (block : List ℕ) (place n p : ℕ) (e : stepFrom block place ≡ Last n p) where
+  -- It is given only where all fields start before the place.
+  pub last-before : AllBefore place 0 (given block .items)
+  last-before = go (stepFrom block place) e (step-any block place)
+    where
+      go : (r : Step) → r ≡ Last n p → First place 0 (given block .items) (lastOf (given block)) r → AllBefore place 0 (given block .items)
+      go r q (found before after f x h b) = absurd (let z : _≡_ {A = ℕ} 0 1 = cc in omega arith)
+      go r q (none b) = b
+
   -- From every place the last answer is the same,
   pub last-same : Last n p ≡ lastOf (given block)
   last-same = go (stepFrom block place) e (step-any block place)
@@ -119,3 +130,41 @@ module _ (block : List ℕ) (place n p : ℕ) (e : stepFrom block place ≡ Last
   -- and it is one of 0 to 4.
   pub last-four : n ≤ 4
   last-four = let l = last-same in let q : n ≡ given block .number = cc in rw q (given-four block)
+
+  -- It is 1 only where the block is too long,
+  pub last-long : n ≡ 1 → byteLimit < length block
+  last-long o = go (ltb byteLimit (length block)) refl
+    where
+      go : (t : Bool) → ltb byteLimit (length block) ≡ t → byteLimit < length block
+      go true l = ltb-true byteLimit (length block) l
+      go false l =
+          let s = last-same in
+          let q : n ≡ given block .number = cc in
+          absurd (omega (arith, fields-numbers block 0 (sym (ap (λ (w : Walked Field). w .number) (given-fields block l)) ∙ (sym q ∙ o))))
+
+  -- and any other is that of the walk.
+  pub last-walk : (n ≡ 1 → ⊥)
+      → (length block ≤ byteLimit) × ((fields block .number ≡ n) × ((fields block .place ≡ p) × AllBefore place 0 (fields block .items)))
+  last-walk ne = go (ltb byteLimit (length block)) refl
+    where
+      go : (t : Bool) → ltb byteLimit (length block) ≡ t
+          → (length block ≤ byteLimit) × ((fields block .number ≡ n) × ((fields block .place ≡ p) × AllBefore place 0 (fields block .items)))
+      go true l =
+          let s = last-same in
+          let q : n ≡ given block .number = cc in
+          absurd (ne (q ∙ ap (λ (w : Walked Field). w .number) (given-long block l)))
+      go false l =
+          let s = last-same in
+          let g = given-fields block l in
+          let q : n ≡ given block .number = cc in
+          let r : p ≡ given block .place = cc in (
+            ltb-false byteLimit (length block) l,
+            (sym (q ∙ ap (λ (w : Walked Field). w .number) g), (sym (r ∙ ap (λ (w : Walked Field). w .place) g), rw g at last-before)),
+          )
+
+-- The answer of the walk is given where all fields start before the place.
+pub walk-last : (block : List ℕ) (place n p : ℕ) → length block ≤ byteLimit → fields block .number ≡ n → fields block .place ≡ p
+    → AllBefore place 0 (fields block .items) → stepFrom block place ≡ Last n p
+walk-last block place n p h a b c =
+    let g = given-fields block (le-ltb byteLimit (length block) h) in
+    step-last block place (rw g c) ∙ (ap lastOf g ∙ rw (a, b))

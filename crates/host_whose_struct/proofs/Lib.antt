@@ -1,3 +1,4 @@
 pub mod WhoseExamples
 pub mod WhoseStrips
+pub mod Numbers
 pub mod RepeatedEntries

@@ -2,6 +2,7 @@
 -- the lent buffer as it was. That a call ends on all bytes is proved with its function: none has a precondition. Here is when it gives
 -- which number, with which place (01, Answer numbers), for every block, list, body, lines, verdicts and buffer.
 use Prim.Native.Nat.{ℕ, _+_, _≤_, _<_}
+use native.Mathlib.Omega.{arith}
 use mathlib.Core.Path.{_≡_, refl}
 use mathlib.Core.Bool.{true}
 use mathlib.Core.Logic.{_⊎_}
@@ -11,26 +12,37 @@ use lib.Seq.{drop-append-seam}
 use Rattle.base_readers.specs.Texts.{oneOf}
 use Rattle.lexis_rules.specs.Limits.{byteLimit}
 use Rattle.block_rules.specs.Fields.{fieldLimit, fields, bytesOf}
+use Rattle.block_laws.proofs.Fields.{fields-place}
+use Rattle.identifier_rules.specs.Identifier.{identifier}
 use Rattle.ownlist_rules.specs.OwnList.{ownList}
-use Rattle.strip_rules.specs.Terms as strip-told
+use Rattle.ownlist_rules.specs.Listed.{ownOf}
+use Rattle.strip_rules.specs.Terms as strip-terms
 use Rattle.strip_laws.proofs.Numbers as strip-ways
 use Rattle.report_rules.specs.Body.{Head, newer, reading}
 use Rattle.report_rules.specs.Report.{idLine, versionLine}
-use Rattle.report_rules.specs.ByCase.{numberOf, textOf, hasReport}
+use Rattle.report_rules.specs.ByCase.{numberOf as answerNumber, textOf, hasReport}
 use Rattle.report_laws.proofs.AnswersByCase as report-laws
 use Rattle.report_laws.proofs.Numbers as report-ways
+use Rattle.blockreport_rules.specs.declared.Detail.{Detail}
+use Rattle.blockreport_rules.specs.Terms as block-report-terms
+use Rattle.blockreport_rules.specs.Terms.{blockText}
+use Rattle.blockreport_laws.proofs.Numbers as block-report-ways
+use Rattle.host_whose_struct.specs.Whose.{ownerCode}
+use Rattle.host_whose_struct.proofs.Numbers as whose-ways
+use Rattle.arc_rules.specs.Chain.{outcome, built, validFor}
+use Rattle.arc_rules.specs.Terms as judge-terms
 use Rattle.arc_rules.specs.Terms.{BadVerdicts}
 use Rattle.arc_laws.proofs.Numbers as judge-ways
 use Rattle.arc_laws.proofs.BuiltExactly as judge-laws
 use Rattle.block_walk_rules.specs.declared.Step.the-variants.{Last}
 use Rattle.block_walk_rules.specs.Steps.{given, lastOf}
-use Rattle.block_walk_rules.specs.Whole.{stepsFrom, inOrder, First}
+use Rattle.block_walk_rules.specs.Whole.{stepsFrom, inOrder, AllBefore, First}
 use Rattle.block_walk_rules.proofs.FieldsGiven as step-laws
 use Rattle.write_rules.specs.Compose.{compose}
 use Rattle.write_rules.specs.Promise.{HasBody, bodyFor, TooLong, TooShort, Fits, Placed}
 use Rattle.write_laws.proofs.WriteTheorems as write-laws
 use Rattle.promises.specs.Exactly.{Exactly}
-use Rattle.promises.specs.Calls.{strips, reports, writes, judges, steps}
+use Rattle.promises.specs.Calls.{strips, reports, blockReports, tells, writes, judges, steps}
 
 -- ==== stripping: 1, 5, then 2 to 4, then 6
 
@@ -61,19 +73,19 @@ module _ (block list old : List ℕ) where
 
   -- 6: lent output shorter than the whole output; bytes needed
   pub strip-6 : Exactly (strips block list old .answer .number ≡ 6)
-      (strip-told.Known block list × (length old < length (bytesOf (strip-told.keptFields block list))))
+      (strip-terms.Known block list × (length old < length (bytesOf (strip-terms.keptFields block list))))
   strip-6 = (strip-ways.six-when block list (length old), λ h. search (strip-ways.when-six block list (length old) (h .0) (h .1)))
 
-  pub strip-place-6 : strip-told.Known block list → length old < length (bytesOf (strip-told.keptFields block list))
-      → strips block list old .answer .place ≡ length (bytesOf (strip-told.keptFields block list))
+  pub strip-place-6 : strip-terms.Known block list → length old < length (bytesOf (strip-terms.keptFields block list))
+      → strips block list old .answer .place ≡ length (bytesOf (strip-terms.keptFields block list))
   strip-place-6 k h = search (strip-ways.when-six block list (length old) k h)
 
   -- 0: done; place 0
   pub strip-0 : Exactly (strips block list old .answer .number ≡ 0)
-      (strip-told.Known block list × (length (bytesOf (strip-told.keptFields block list)) ≤ length old))
+      (strip-terms.Known block list × (length (bytesOf (strip-terms.keptFields block list)) ≤ length old))
   strip-0 = (strip-ways.zero-when block list (length old), λ h. search (strip-ways.when-zero block list (length old) (h .0) (h .1)))
 
-  pub strip-place-0 : strip-told.Known block list → length (bytesOf (strip-told.keptFields block list)) ≤ length old → strips block list old .answer .place ≡ 0
+  pub strip-place-0 : strip-terms.Known block list → length (bytesOf (strip-terms.keptFields block list)) ≤ length old → strips block list old .answer .place ≡ 0
   strip-place-0 k h = search (strip-ways.when-zero block list (length old) k h)
 
   -- there is no other number
@@ -100,10 +112,10 @@ module _ (body old : List ℕ) where
   pub report-1 : Exactly (reports body old .answer .number ≡ 1) (byteLimit < length body)
   report-1 = (report-ways.one-when body (length old), λ h. search (report-ways.when-one body (length old) h))
 
-  -- 7: identifier unreadable; 8: header version not 1; 9: body not well-formed; 0: done. Each is the number of what the body says (`numberOf`)
+  -- 7: identifier unreadable; 8: header version not 1; 9: body not well-formed; 0: done. Each is the answer number of what the body says (`numberOf` in ByCase)
   pub report-0-7-8-9 : (n : ℕ) → (n ≡ 1 → ⊥) → (n ≡ 6 → ⊥)
       → Exactly (reports body old .answer .number ≡ n)
-      ((length body ≤ byteLimit) × ((numberOf (reading body) ≡ n) × (length (textOf (reading body)) ≤ length old)))
+      ((length body ≤ byteLimit) × ((answerNumber (reading body) ≡ n) × (length (textOf (reading body)) ≤ length old)))
   report-0-7-8-9 n a b = (report-ways.told-when body (length old) n a b, λ h. search (report-ways.when-told body (length old) (h .0) (h .1 .1), h .1 .0))
 
   -- 6: lent output shorter than the whole output
@@ -145,6 +157,119 @@ module _ (body old : List ℕ) where
   -- bytes past those written stay unchanged
   pub report-past : drop (reports body old .answer .written) (reports body old .left) ≡ drop (reports body old .answer .written) old
   report-past = report-ways.past body old
+
+-- ==== the report of a block, with or without identifiers: 1, 5, then 2 to 4, then 6
+
+module _ (detail : Detail) (block list old : List ℕ) where
+  -- 1: block over 65,536 bytes; place 0
+  pub block-report-1 : Exactly (blockReports detail block list old .answer .number ≡ 1) (byteLimit < length block)
+  block-report-1 = (block-report-ways.one-when detail block list (length old), λ h. search (block-report-ways.when-one detail block list (length old) h))
+
+  pub block-report-place-1 : byteLimit < length block → blockReports detail block list old .answer .place ≡ 0
+  block-report-place-1 h = search (block-report-ways.when-one detail block list (length old) h)
+
+  -- 5: bad own list; start of the first bad entry
+  pub block-report-5 : Exactly (blockReports detail block list old .answer .number ≡ 5) ((length block ≤ byteLimit) × (ownList list .number ≡ 5))
+  block-report-5 =
+      (block-report-ways.five-when detail block list (length old), λ h. search (block-report-ways.when-five detail block list (length old) (h .0) (h .1)))
+
+  pub block-report-place-5 : length block ≤ byteLimit → ownList list .number ≡ 5 → blockReports detail block list old .answer .place ≡ ownList list .place
+  block-report-place-5 a b = search (block-report-ways.when-five detail block list (length old) a b)
+
+  -- 2 to 4: from one walk from the front, line by line; the place of that walk
+  pub block-report-2-to-4 : (n : ℕ) → 2 ≤ n → n ≤ 4
+      → Exactly (blockReports detail block list old .answer .number ≡ n)
+      ((length block ≤ byteLimit) × ((ownList list .number ≡ 0) × (fields block .number ≡ n)))
+  block-report-2-to-4 n a b = (
+    block-report-ways.walk-when detail block list (length old) n a b,
+    λ h. search (block-report-ways.when-walk detail block list (length old) n a b (h .0) (h .1 .0) (h .1 .1)),
+  )
+
+  pub block-report-place-2-to-4 : (n : ℕ) → 2 ≤ n → n ≤ 4 → length block ≤ byteLimit → ownList list .number ≡ 0 → fields block .number ≡ n
+      → blockReports detail block list old .answer .place ≡ fields block .place
+  block-report-place-2-to-4 n a b h k w = search (block-report-ways.when-walk detail block list (length old) n a b h k w)
+
+  -- 6: lent output shorter than the whole output; bytes needed
+  pub block-report-6 : Exactly (blockReports detail block list old .answer .number ≡ 6)
+      (block-report-terms.Known block list × (length old < length (blockText detail block list)))
+  block-report-6 =
+      (block-report-ways.six-when detail block list (length old), λ h. search (block-report-ways.when-six detail block list (length old) (h .0) (h .1)))
+
+  pub block-report-place-6 : block-report-terms.Known block list → length old < length (blockText detail block list)
+      → blockReports detail block list old .answer .place ≡ length (blockText detail block list)
+  block-report-place-6 k h = search (block-report-ways.when-six detail block list (length old) k h)
+
+  -- 0: done; what the fields add is written (`blockText`), place 0
+  pub block-report-0 : Exactly (blockReports detail block list old .answer .number ≡ 0)
+      (block-report-terms.Known block list × (length (blockText detail block list) ≤ length old))
+  block-report-0 =
+      (block-report-ways.zero-when detail block list (length old), λ h. search (block-report-ways.when-zero detail block list (length old) (h .0) (h .1)))
+
+  pub block-report-done : block-report-terms.Known block list → length (blockText detail block list) ≤ length old
+      → blockReports detail block list old
+      ≡ record {
+        answer = record { number = 0; place = 0; written = length (blockText detail block list) };
+        left = blockText detail block list ++ drop (length (blockText detail block list)) old;
+      }
+  block-report-done k h = rw (block-report-ways.when-zero detail block list (length old) k h)
+
+  -- there is no other number
+  pub block-report-numbers : blockReports detail block list old .answer .number ≤ 6
+  block-report-numbers = block-report-ways.numbers detail block list (length old)
+
+  -- refusals write nothing and return zero counts
+  pub block-report-refusal : (blockReports detail block list old .answer .number ≡ 0 → ⊥)
+      → blockReports detail block list old
+      ≡ record {
+        answer =
+            record {
+              number = blockReports detail block list old .answer .number;
+              place = blockReports detail block list old .answer .place;
+              written = 0;
+            };
+        left = old;
+      }
+  block-report-refusal ne = rw (block-report-ways.refused-silent detail block list (length old) ne)
+
+  -- bytes past those written stay unchanged
+  pub block-report-past :
+      drop (blockReports detail block list old .answer .written) (blockReports detail block list old .left)
+      ≡ drop (blockReports detail block list old .answer .written) old
+  block-report-past = block-report-ways.past detail block list old
+
+-- ==== whose an identifier is: 1, then 5, in stripping's order
+
+module _ (list body : List ℕ) where
+  -- 1: body over 65,536 bytes; place 0
+  pub whose-1 : Exactly (tells list body .number ≡ 1) (byteLimit < length body)
+  whose-1 = (whose-ways.one-when list body, λ h. search (whose-ways.when-one list body h))
+
+  pub whose-place-1 : byteLimit < length body → tells list body .place ≡ 0
+  whose-place-1 h = search (whose-ways.when-one list body h)
+
+  -- 5: bad own list; start of the first bad entry
+  pub whose-5 : Exactly (tells list body .number ≡ 5) ((length body ≤ byteLimit) × (ownList list .number ≡ 5))
+  whose-5 = (whose-ways.five-when list body, λ h. search (whose-ways.when-five list body (h .0) (h .1)))
+
+  pub whose-place-5 : length body ≤ byteLimit → ownList list .number ≡ 5 → tells list body .place ≡ ownList list .place
+  whose-place-5 a b = search (whose-ways.when-five list body a b)
+
+  -- 0: done; ours, another's or unreadable (`ownerCode`), place 0
+  pub whose-0 : Exactly (tells list body .number ≡ 0) ((length body ≤ byteLimit) × (ownList list .number ≡ 0))
+  whose-0 = (whose-ways.zero-when list body, λ h. search (whose-ways.when-zero list body (h .0) (h .1)))
+
+  pub whose-done : length body ≤ byteLimit → ownList list .number ≡ 0
+      → tells list body ≡ record { number = 0; whose = ownerCode (ownOf (ownList list .items) (identifier body)); place = 0 }
+  whose-done = whose-ways.when-zero list body
+
+  -- there is no other number
+  pub whose-numbers : oneOf (0 ∷ 1 ∷ 5 ∷ []) (tells list body .number) ≡ true
+  whose-numbers = whose-ways.numbers list body
+
+  -- refusals return zero counts
+  pub whose-refusal : (tells list body .number ≡ 0 → ⊥)
+      → tells list body ≡ record { number = tells list body .number; whose = 0; place = tells list body .place }
+  whose-refusal = whose-ways.refused-blank list body
 
 -- ==== report lines (02, ticket [1]): 11, then 1, then 6
 
@@ -212,6 +337,11 @@ module _ (block verdicts : List ℕ) where
   pub judge-10 : Exactly (judges block verdicts .number ≡ 10) (BadVerdicts block verdicts)
   judge-10 = judge-laws.ten-exactly block verdicts
 
+  -- 0: done; the fields are all there, and where their chain is built, there are N verdicts from 0 to 3
+  pub judge-0 : Exactly (judges block verdicts .number ≡ 0)
+      (judge-terms.Known block × ((n : ℕ) → outcome (fields block .items) ≡ built n → validFor n verdicts ≡ true))
+  judge-0 = (judge-ways.zero-when block verdicts, λ h. judge-ways.when-zero block verdicts (h .0) (h .1))
+
   -- the numbers are 0 to 4 and 10; but for 2 to 4 the place is 0
   pub judge-numbers : (judges block verdicts .number ≤ 4 → ⊥) → judges block verdicts .number ≡ 10
   judge-numbers = judge-ways.numbers block verdicts
@@ -237,9 +367,23 @@ module _ (block verdicts : List ℕ) where
 -- ==== the walking reader: it answers 1 first, else gives each field ending before the line of a 2 to 4, then that answer (`given`)
 
 module _ (block : List ℕ) where
-  -- 1 from every place of a block that is too long
-  pub step-1 : byteLimit < length block → (place : ℕ) → steps block place ≡ Last 1 0
-  step-1 h place = step-laws.step-long block place h
+  -- 1 from every place of a block that is too long, and of no other
+  pub step-1 : (place : ℕ) → Exactly (steps block place ≡ Last 1 0) (byteLimit < length block)
+  step-1 place = ((λ e. step-laws.last-long block place 1 0 e refl), step-laws.step-long block place)
+
+  -- 0, and 2 to 4 with their place, where that is the answer of the walk over the block and all its fields start before the place
+  pub step-0 : (place : ℕ)
+      → Exactly (steps block place ≡ Last 0 0) ((length block ≤ byteLimit) × ((fields block .number ≡ 0) × AllBefore place 0 (fields block .items)))
+  step-0 place = (
+    (λ e. (let w = step-laws.last-walk block place 0 0 e (λ z. omega (arith, z)) in (w .0, (w .1 .0, w .1 .1 .1)))),
+    λ h. step-laws.walk-last block place 0 0 (h .0) (h .1 .0) (fields-place block (h .1 .0)) (h .1 .1),
+  )
+
+  pub step-2-to-4 : (place n p : ℕ) → 2 ≤ n → n ≤ 4
+      → Exactly (steps block place ≡ Last n p)
+      ((length block ≤ byteLimit) × ((fields block .number ≡ n) × ((fields block .place ≡ p) × AllBefore place 0 (fields block .items))))
+  step-2-to-4 place n p a b =
+      ((λ e. step-laws.last-walk block place n p e (λ z. omega arith)), λ h. step-laws.walk-last block place n p (h .0) (h .1 .0) (h .1 .1 .0) (h .1 .1 .1))
 
   -- from any place, also one that a host made up, a step gives the first of these fields that starts there or later, or else that last answer
   pub step-any : (place : ℕ) → First place 0 (given block .items) (lastOf (given block)) (steps block place)

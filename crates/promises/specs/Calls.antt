@@ -17,6 +17,12 @@ use Rattle.arc_rules.specs.Chain.{judge}
 use Rattle.arc_rules.specs.Answers as judge-answers
 use Rattle.block_walk_rules.specs.declared.Step.{Step}
 use Rattle.block_walk_rules.specs.Steps.{stepFrom}
+use Rattle.blockreport_rules.specs.declared.Detail.{Detail}
+use Rattle.blockreport_rules.specs.declared.BlockReported.{BlockReported}
+use Rattle.blockreport_rules.specs.BlockReport.{blockReport}
+use Rattle.blockreport_rules.specs.Answers as block-answers
+use Rattle.host_whose_struct.specs.declared.WhoseFace.{WhoseFace}
+use Rattle.host_whose_struct.specs.Whose.{whose}
 
 -- `strip::strip(block, list, out)`
 pub record Stripping : Type 0 where
@@ -34,6 +40,22 @@ pub record Reporting : Type 0 where
 
 abbrev pub reports : List ℕ → List ℕ → Reporting
 reports body old = record { answer = report-answers.answerOf (report body (length old)); left = report-answers.leaves (report body (length old)) old }
+
+-- `blockreport::report_block(detail, block, list, out)`
+pub record BlockReporting : Type 0 where
+  pub answer : BlockReported
+  pub left : List ℕ
+
+abbrev pub blockReports : Detail → List ℕ → List ℕ → List ℕ → BlockReporting
+blockReports detail block list old =
+    record {
+      answer = block-answers.answerOf (blockReport detail block list (length old));
+      left = block-answers.leaves (blockReport detail block list (length old)) old;
+    }
+
+-- `host_whose::whose(list, body)`, which is lent no buffer
+abbrev pub tells : List ℕ → List ℕ → WhoseFace
+tells list body = whose list body
 
 -- `write::write(lines, out)`
 pub record Writing : Type 0 where
