@@ -9,11 +9,11 @@ use lib.Dec.{eqb}
 use lib.ListN.{getD, take}
 use Rattle.base_sequences.proofs.Booleans.{both}
 use Rattle.block_rules.specs.Fields.{Field, fields}
-use Rattle.arc_rules.specs.Chain.{Sets, noSets, gathered, Outcome, none, failed, built, anyEmpty, prescribed, completeOutcome, outcomeOf, outcome, Answer, judge}
+use Rattle.arc_rules.specs.Chain.{Sets, noSets, gathered, Outcome, none, failed, built, anyEmpty, prescribed, completeOutcome, outcomeOf, outcome, judge}
 use Rattle.arc_rules.specs.Reasons.{firstUnread, firstRepeating, highestInstance, lacks, anyInstance, emptyPlace, lastFails, otherValue}
-use Rattle.arc_rules.specs.Terms.{Known}
 use Rattle.arc_laws.proofs.Gathering.{Told, sets-told}
 use Rattle.arc_laws.proofs.FirstFields.{unread-told, repeated-told}
+use Rattle.arc_laws.proofs.Numbers.{reason-when}
 use Rattle.arc_laws.proofs.InstanceReasons.{highest-told, empty-told, fail-told, value-told, no-instance}
 
 -- ==== the first reason that applies
@@ -255,3 +255,12 @@ module _ (fs : List Field) where
         | e u i p l v o ↦ o
         | no u i p l v o ↦ absurd (both (otherValue fs) v (h .1 .1 .1 .1))
       ]
+
+-- ==== the answer
+
+pub judge-reasons : (block vs : List ℕ) → judge block vs .reason ≤ 5
+judge-reasons block vs = go (judge block vs .reason) refl
+  where
+    go : (r : ℕ) → judge block vs .reason ≡ r → judge block vs .reason ≤ 5
+    go zero q = omega (arith, q)
+    go (suc r) q = let w = reason-when block vs (suc r) (omega arith) q in omega (arith, q, reasons (fields block .items) (suc r) (w .0) (w .1))

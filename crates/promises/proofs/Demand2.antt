@@ -4,7 +4,7 @@ use Prim.Native.Nat.{ℕ, _+_, _*_, _≤_, _<_}
 use native.Mathlib.Omega.{arith}
 use mathlib.Core.Path.{_≡_, refl, sym, ap, _∙_}
 use mathlib.Core.Bool.{true, false, cond}
-use mathlib.Core.List.{List, [], _∷_, _++_, map, List·Memᴰ}
+use mathlib.Core.List.{List, [], _∷_, _++_, map, List·Memᴰ, List·Memᴰ·eq-of-singleton}
 use lib.Dec.{lit≤}
 use lib.ListN.{length, drop}
 use Rattle.base_readers.specs.Texts.{bytes}
@@ -15,28 +15,31 @@ use Rattle.ownlist_rules.specs.OwnList.{ownList}
 use Rattle.report_rules.specs.Body.{results, reading}
 use Rattle.report_rules.specs.Report.{idLine, lines, ignoredOf}
 use Rattle.result_rules.specs.Results.{Result}
-use Rattle.report_rules.specs.ByCase.{numberOf, textOf, countOf}
+use Rattle.report_rules.specs.ByCase.{numberOf as answerNumber, textOf, countOf}
 use Rattle.report_rules.proofs.Unfolding as body-opened
 use Rattle.report_laws.proofs.Numbers as report-ways
 use Rattle.report_laws.proofs.Rooms as rooms
 use Rattle.strip_rules.specs.Strip.{strip}
 use Rattle.strip_rules.specs.ByFields.{Kept}
-use Rattle.strip_rules.specs.Terms.{Known, keptFields, removedFields}
+use Rattle.strip_rules.specs.Terms.{keptFields, removedFields}
 use Rattle.strip_rules.proofs.Examples as strip-opened
 use Rattle.strip_laws.proofs.StripTheorems as strip-laws
 use Rattle.strip_laws.proofs.ByFields as strip-fields
 use Rattle.strip_laws.proofs.Numbers as strip-ways
 use Rattle.arc_rules.specs.Chain.{outcome, built, failed, validFor, passes, oldestPass}
 use Rattle.arc_rules.specs.declared.Judged.{Judged}
-use Rattle.arc_rules.specs.Terms as judge-told
+use Rattle.arc_rules.specs.Terms as judge-terms
 use Rattle.arc_rules.specs.Accepted.{kindOf, isArc, Accepted}
+use Rattle.arc_rules.specs.Reasons.{firstUnread, firstRepeating, emptyPlace, lastFails, otherValue}
 use Rattle.arc_rules.proofs.Unfolding as arc-opened
+use Rattle.arc_rules.proofs.ReasonExamples as reason-opened
 use Rattle.arc_laws.proofs.Numbers as judge-ways
 use Rattle.arc_laws.proofs.BuiltExactly as judge-laws
+use Rattle.arc_laws.proofs.ReasonsExactly as reason-laws
 use Rattle.promises.specs.Exactly.{Exactly}
 use Rattle.promises.specs.Calls.{strips, reports, judges}
 
--- ==== The report of a field is the one RFC 8601 and document 01 give
+-- ==== the report of a field: the one RFC 8601 and document 01 give
 
 -- what a body within the limit says is told whole, in front of the lent buffer, where there is room for it
 pub report-told : (body old : List ℕ) → length body ≤ byteLimit → length (textOf (reading body)) ≤ length old
@@ -44,7 +47,7 @@ pub report-told : (body old : List ℕ) → length body ≤ byteLimit → length
     ≡ record {
       answer =
           record {
-            number = numberOf (reading body);
+            number = answerNumber (reading body);
             place = 0;
             written = length (textOf (reading body));
             ignored = countOf (reading body);
@@ -62,6 +65,12 @@ pub report-results : (body i : List ℕ) (rs : List Result) (old : List ℕ) →
       left = (idLine i ++ lines rs) ++ drop (length (idLine i ++ lines rs)) old;
     }
 report-results body i rs old l e r = rw (report-ways.when-told body (length old) l (rw e r), e)
+
+results-example :
+    reports (bytes "a; spf=pass; dkim/2=pass") (bytes ".....................")
+    ≡ record { answer = record { number = 0; place = 0; written = 16; ignored = 1 }; left = bytes "id\ta\nm\tspf\tpass\n....." }
+unfolding body-opened.opened
+results-example = report-results (bytes "a; spf=pass; dkim/2=pass") (bytes "a") _ (bytes ".....................") (lit≤ tt) refl (lit≤ tt)
 
 -- document 01's whole example: 56 bytes, in front of the lent ones
 report-example : reports (bytes " example.com; spf=pass smtp.mailfrom=example.net") (bytes "........................................................!")
@@ -86,10 +95,9 @@ report-room body old h = rooms.room-enough body (length old) h
 room-example : reports (bytes "a") (bytes ".......") .answer .number ≡ 6 → ⊥
 room-example = report-room (bytes "a") (bytes ".......") (lit≤ tt)
 
--- ==== Stripping removes exactly the Authentication-Results fields whose identifier is on our own list or can't be read, and keeps every
+-- ==== the stripped block
 
--- other byte in order
-
+-- Stripping removes exactly the Authentication-Results fields whose identifier is on our own list or can't be read, and keeps every other byte in order
 module _ (block list old : List ℕ) (z : strips block list old .answer .number ≡ 0) where
   -- the block is its fields, and so is what is written; of the block's fields those that are removed are left out (`Kept`)
   pub strip-by-fields : (bytesOf (fields block .items) ≡ block)
@@ -129,6 +137,14 @@ unfolding strip-opened.opened
 strip-example =
     strip-by-fields (bytes "Authentication-Results : Example.COM; none\r\nFrom: a@b.example\r\n") (bytes "example.com\n") (bytes "....................") refl .1 .0
 
+-- what is written there, stripped again with as much room
+twice-example :
+    strip (bytes "From: a@b.example\r\n") (bytes "example.com\n") 19
+    ≡ record { number = 0; place = 0; kept = 19; removed = 0; fields = 0; written = bytes "From: a@b.example\r\n" }
+unfolding strip-opened.opened
+twice-example =
+    strip-twice (bytes "Authentication-Results : Example.COM; none\r\nFrom: a@b.example\r\n") (bytes "example.com\n") (bytes "....................") refl 19 (lit≤ tt)
+
 -- a repeated entry changes nothing
 pub strip-repeated : (block list list′ : List ℕ) (room : ℕ) (e : List ℕ) (xs ys zs : List (List ℕ))
     → ownList list ≡ record { items = xs ++ (e ∷ (ys ++ zs)); number = 0; place = 0 }
@@ -139,12 +155,11 @@ repeated-example : (block : List ℕ) (room : ℕ) → strip block (bytes "a\nb\
 unfolding strip-opened.opened
 repeated-example block room = strip-repeated block (bytes "a\nb\n") (bytes "a\nb\na\n") room (bytes "a") [] (bytes "b" ∷ []) [] refl refl
 
--- ==== An ARC structure is accepted exactly when every ARC field reads, and instances 1 to N, N from 1 to 50, each have one field of each
+-- ==== the judgement of a chain: built
 
--- kind and the chain values RFC 8617 prescribes
-
--- for every block within the limit whose walk comes to its end, and N verdicts from 0 to 3
-pub judge-built : (block verdicts : List ℕ) (n : ℕ) → judge-told.Known block → validFor n verdicts ≡ true
+-- An ARC structure is accepted exactly when every ARC field reads, and instances 1 to N, N from 1 to 50, each have one field of each kind and the chain
+-- values RFC 8617 prescribes: for every block within the limit whose walk comes to its end, and N verdicts from 0 to 3
+pub judge-built : (block verdicts : List ℕ) (n : ℕ) → judge-terms.Known block → validFor n verdicts ≡ true
     → Exactly ((judges block verdicts .outcome ≡ 2) × (judges block verdicts .instances ≡ n)) (Accepted (fields block .items) n)
 judge-built = judge-laws.judge-built
 
@@ -158,7 +173,7 @@ pub built-exactly : (fs : List Field) (n : ℕ) → Exactly (outcome fs ≡ buil
 built-exactly = judge-laws.built-exactly
 
 -- built: the status is pass when all N seals and signature N are good, and then there is an oldest-pass; else it is fail
-pub judge-status : (block verdicts : List ℕ) (n : ℕ) → judge-told.Known block → outcome (fields block .items) ≡ built n → validFor n verdicts ≡ true
+pub judge-status : (block verdicts : List ℕ) (n : ℕ) → judge-terms.Known block → outcome (fields block .items) ≡ built n → validFor n verdicts ≡ true
     → judges block verdicts
     ≡ record {
       number = 0;
@@ -172,19 +187,138 @@ pub judge-status : (block verdicts : List ℕ) (n : ℕ) → judge-told.Known bl
     }
 judge-status block verdicts n k o v = rw (judge-ways.when-built block verdicts n k o v)
 
--- failed: the first reason that applies, the field that it names, and status fail
-pub judge-failed : (block verdicts : List ℕ) (r f : ℕ) → judge-told.Known block → outcome (fields block .items) ≡ failed r f
-    → judges block verdicts ≡ record { number = 0; place = 0; outcome = 1; reason = r; field = f; instances = 0; status = 2; oldest = 0 }
+-- the status of one set is pass exactly where its seal and its signature are good
+status-example :
+    (judges judge-laws.one (3 ∷ []) ≡ record { number = 0; place = 0; outcome = 2; reason = 0; field = 0; instances = 1; status = 1; oldest = 0 })
+    × (judges judge-laws.one (2 ∷ []) ≡ record { number = 0; place = 0; outcome = 2; reason = 0; field = 0; instances = 1; status = 2; oldest = 0 })
+unfolding arc-opened.opened
+status-example =
+    (judge-status judge-laws.one (3 ∷ []) 1 (lit≤ tt, refl) refl refl, judge-status judge-laws.one (2 ∷ []) 1 (lit≤ tt, refl) refl refl)
+
+-- ==== the judgement of a chain: failed
+
+-- what is answered for a reason, 1 to 5 for (a) to (e), and the number of the field that it names; N is returned as 0 unless built, and the status is
+-- the outcome's, fail
+abbrev failedFor : ℕ → ℕ → Judged
+failedFor r f = record { number = 0; place = 0; outcome = 1; reason = r; field = f; instances = 0; status = 2; oldest = 0 }
+
+pub judge-failed : (block verdicts : List ℕ) (r f : ℕ) → judge-terms.Known block → outcome (fields block .items) ≡ failed r f
+    → judges block verdicts ≡ failedFor r f
 judge-failed block verdicts r f k o = rw (judge-ways.when-fails block verdicts r f k o)
 
--- none exactly where there are no such fields, whatever the verdicts
-pub judge-none : (block verdicts : List ℕ) → judge-told.Known block
+-- Failed for the first reason that applies: each exactly where it applies (`Reasons.antt`) and none before it does. Reasons a and b name the first such
+-- field, in b the repeating one, by its number among all fields from 1; the others give 0
+module _ (block verdicts : List ℕ) (k : judge-terms.Known block) where
+  abbrev fs : List Field
+  fs = fields block .items
+
+  -- (a) an unreadable field
+  pub judge-failed-a : Exactly (judges block verdicts .reason ≡ 1) (1 ≤ firstUnread fs)
+  judge-failed-a = (
+    (λ e. (let w = judge-ways.reason-when block verdicts 1 (lit≤ tt) e in reason-laws.unread-when fs (w .0) (w .1))),
+    λ h. ap (λ (x : Judged). x .reason) (judge-failed block verdicts 1 (firstUnread fs) k (reason-laws.when-unread fs h)),
+  )
+
+  pub judge-answers-a : 1 ≤ firstUnread fs → judges block verdicts ≡ failedFor 1 (firstUnread fs)
+  judge-answers-a h = judge-failed block verdicts 1 (firstUnread fs) k (reason-laws.when-unread fs h)
+
+  -- (b) the first repeated kind, in block order, at one instance
+  pub judge-failed-b : Exactly (judges block verdicts .reason ≡ 2) ((firstUnread fs ≡ 0) × (1 ≤ firstRepeating fs))
+  judge-failed-b = (
+    (λ e. (let w = judge-ways.reason-when block verdicts 2 (lit≤ tt) e in reason-laws.repeated-when fs (w .0) (w .1))),
+    λ h. ap (λ (x : Judged). x .reason) (judge-failed block verdicts 2 (firstRepeating fs) k (reason-laws.when-repeated fs h)),
+  )
+
+  pub judge-answers-b : (firstUnread fs ≡ 0) × (1 ≤ firstRepeating fs) → judges block verdicts ≡ failedFor 2 (firstRepeating fs)
+  judge-answers-b h = judge-failed block verdicts 2 (firstRepeating fs) k (reason-laws.when-repeated fs h)
+
+  -- (c) with N the highest instance, an empty place in 1 to N
+  pub judge-failed-c : Exactly (judges block verdicts .reason ≡ 3) ((firstUnread fs ≡ 0) × ((firstRepeating fs ≡ 0) × (emptyPlace fs ≡ true)))
+  judge-failed-c = (
+    (λ e. (let w = judge-ways.reason-when block verdicts 3 (lit≤ tt) e in reason-laws.empty-when fs (w .0) (w .1))),
+    λ h. ap (λ (x : Judged). x .reason) (judge-failed block verdicts 3 0 k (reason-laws.when-empty fs h)),
+  )
+
+  pub judge-answers-c : (firstUnread fs ≡ 0) × ((firstRepeating fs ≡ 0) × (emptyPlace fs ≡ true)) → judges block verdicts ≡ failedFor 3 0
+  judge-answers-c h = judge-failed block verdicts 3 0 k (reason-laws.when-empty fs h)
+
+  -- (d) the seal at N has cv fail
+  pub judge-failed-d : Exactly (judges block verdicts .reason ≡ 4) ((firstUnread fs ≡ 0) × ((firstRepeating fs ≡ 0) × ((emptyPlace fs ≡ false) × (lastFails fs ≡ true))))
+  judge-failed-d = (
+    (λ e. (let w = judge-ways.reason-when block verdicts 4 (lit≤ tt) e in reason-laws.last-when fs (w .0) (w .1))),
+    λ h. ap (λ (x : Judged). x .reason) (judge-failed block verdicts 4 0 k (reason-laws.when-last fs h)),
+  )
+
+  pub judge-answers-d : (firstUnread fs ≡ 0) × ((firstRepeating fs ≡ 0) × ((emptyPlace fs ≡ false) × (lastFails fs ≡ true))) → judges block verdicts ≡ failedFor 4 0
+  judge-answers-d h = judge-failed block verdicts 4 0 k (reason-laws.when-last fs h)
+
+  -- (e) the seal at 1 isn't none or a later one isn't pass
+  pub judge-failed-e : Exactly (judges block verdicts .reason ≡ 5) ((firstUnread fs ≡ 0) × ((firstRepeating fs ≡ 0) × ((emptyPlace fs ≡ false) × ((lastFails fs ≡ false) × (otherValue fs ≡ true)))))
+  judge-failed-e = (
+    (λ e. (let w = judge-ways.reason-when block verdicts 5 (lit≤ tt) e in reason-laws.value-when fs (w .0) (w .1))),
+    λ h. ap (λ (x : Judged). x .reason) (judge-failed block verdicts 5 0 k (reason-laws.when-value fs h)),
+  )
+
+  pub judge-answers-e : (firstUnread fs ≡ 0) × ((firstRepeating fs ≡ 0) × ((emptyPlace fs ≡ false) × ((lastFails fs ≡ false) × (otherValue fs ≡ true)))) → judges block verdicts ≡ failedFor 5 0
+  judge-answers-e h = judge-failed block verdicts 5 0 k (reason-laws.when-value fs h)
+
+  -- there is no other reason
+  pub judge-reasons : judges block verdicts .reason ≤ 5
+  judge-reasons = reason-laws.judge-reasons block verdicts
+
+-- a block for each, with its neighbours: a field that doesn't read; a kind repeated at one instance; no seal; a seal with fail, and with pass
+abbrev set : List ℕ → List ℕ
+set cv =
+    bytes "ARC-Authentication-Results: i=1;\r\nARC-Message-Signature: i=1;a=;b=;bh=;d=;h=;s=\r\n"
+    ++ (bytes "ARC-Seal: i=1;a=;b=;d=;s=;cv=" ++ (cv ++ bytes "\r\n"))
+
+a-example : judges (bytes "A:\r\nARC-Seal: i=1\r\n") [] ≡ failedFor 1 2
+unfolding reason-opened.opened
+a-example = judge-answers-a (bytes "A:\r\nARC-Seal: i=1\r\n") [] (lit≤ tt, refl) (lit≤ tt)
+
+b-example : judges (set (bytes "none") ++ (bytes "A:\r\n" ++ set (bytes "none"))) [] ≡ failedFor 2 5
+unfolding reason-opened.opened
+b-example = judge-answers-b (set (bytes "none") ++ (bytes "A:\r\n" ++ set (bytes "none"))) [] (lit≤ tt, refl) (refl, lit≤ tt)
+
+c-example : judges (bytes "ARC-Authentication-Results: i=1;\r\n") [] ≡ failedFor 3 0
+unfolding reason-opened.opened
+c-example = judge-answers-c (bytes "ARC-Authentication-Results: i=1;\r\n") [] (lit≤ tt, refl) (refl, (refl, refl))
+
+d-example : judges (set (bytes "fail")) [] ≡ failedFor 4 0
+unfolding reason-opened.opened
+d-example = judge-answers-d (set (bytes "fail")) [] (lit≤ tt, refl) (refl, (refl, (refl, refl)))
+
+e-example : judges (set (bytes "pass")) [] ≡ failedFor 5 0
+unfolding reason-opened.opened
+e-example = judge-answers-e (set (bytes "pass")) [] (lit≤ tt, refl) (refl, (refl, (refl, (refl, refl))))
+
+-- ==== the judgement of a chain: none
+
+-- exactly where there are no such fields, whatever the verdicts
+pub judge-none : (block verdicts : List ℕ) → judge-terms.Known block
     → Exactly (judges block verdicts ≡ record { number = 0; place = 0; outcome = 0; reason = 0; field = 0; instances = 0; status = 0; oldest = 0 })
     ((f : Field) → List·Memᴰ f (fields block .items) → isArc (kindOf f) ≡ false)
 judge-none block verdicts k =
     let l = judge-laws.none-exactly block verdicts k in
     ((λ e. l .0 (ap (λ (x : Judged). x .number) e, ap (λ (x : Judged). x .outcome) e)), (λ h. rw (l .1 h)))
 
+-- a block without ARC fields, and what is known of one that is answered so
+none-example : judges (bytes "A:\r\n") (9 ∷ []) ≡ record { number = 0; place = 0; outcome = 0; reason = 0; field = 0; instances = 0; status = 0; oldest = 0 }
+unfolding arc-opened.opened
+none-example = judge-none (bytes "A:\r\n") (9 ∷ []) (lit≤ tt, refl) .1 others
+  where
+    others : (f : Field) → List·Memᴰ f (fields (bytes "A:\r\n") .items) → isArc (kindOf f) ≡ false
+    others f m = ap (λ (g : Field). isArc (kindOf g)) (List·Memᴰ·eq-of-singleton m)
+
 -- verdicts are read only where the chain is built
 pub judge-unread : (block vs ws : List ℕ) → (judges block vs .outcome ≡ 2 → ⊥) → (judges block vs .number ≡ 10 → ⊥) → judges block vs ≡ judges block ws
 judge-unread block vs ws a b = rw (judge-laws.unread-unless-built block vs ws a b)
+
+-- a field alone fails for (c), and a block without ARC fields is none, whatever is handed in as verdicts
+unread-example : (judges (bytes "ARC-Authentication-Results: i=1;\r\n") [] ≡ judges (bytes "ARC-Authentication-Results: i=1;\r\n") (9 ∷ []))
+    × (judges (bytes "A:\r\n") [] ≡ judges (bytes "A:\r\n") (9 ∷ []))
+unfolding arc-opened.opened
+unread-example = (
+  judge-unread (bytes "ARC-Authentication-Results: i=1;\r\n") [] (9 ∷ []) (λ e. omega (arith, e)) (λ e. omega (arith, e)),
+  judge-unread (bytes "A:\r\n") [] (9 ∷ []) (λ e. omega (arith, e)) (λ e. omega (arith, e)),
+)

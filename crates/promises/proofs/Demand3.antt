@@ -6,7 +6,7 @@ use mathlib.Core.List.{List, [], _∷_, List·Memᴰ}
 use lib.Dec.{lit≤}
 use lib.ListN.{length, take}
 use Rattle.base_readers.specs.Texts.{bytes}
-use Rattle.lexis_rules.specs.Numbers.{numberOf, one}
+use Rattle.lexis_rules.specs.Numbers.{numberOf as versionNumber, one}
 use Rattle.result_rules.specs.Results.{Result}
 use Rattle.report_rules.specs.Body.{reading}
 use Rattle.report_rules.specs.Newer.{Names, WithinLimit, WellFormed, resultsOf, IsResult}
@@ -16,12 +16,11 @@ use Rattle.report_laws.proofs.Demand3 as demand3
 use Rattle.report_laws.proofs.Ignored.{insertAt-length}
 use Rattle.promises.specs.Calls.{Reporting, reports}
 
--- ==== If two fields name the same header version, other than 1, and have the same bytes up to the end of that number, they get the same
+-- ==== a newer header version
 
--- answer and report, whatever follows it in each
-
--- for fields within the size limit
-pub newer-header : (b c v : List ℕ) (n m : ℕ) → Names b v n → Names c v m → (numberOf v ≡ one → ⊥) → take n b ≡ take m c → WithinLimit b → WithinLimit c
+-- If two fields name the same header version, other than 1, and have the same bytes up to the end of that number, they get the same answer and report,
+-- whatever follows it in each: for fields within the size limit
+pub newer-header : (b c v : List ℕ) (n m : ℕ) → Names b v n → Names c v m → (versionNumber v ≡ one → ⊥) → take n b ≡ take m c → WithinLimit b → WithinLimit c
     → (old : List ℕ) → reports b old ≡ reports c old
 newer-header b c v n m B C ne s l k old = rw (demand3.newer-header b c v n m B C ne s l k (length old))
 
@@ -31,9 +30,7 @@ header-example =
     newer-header (bytes "a(b) 002;;\\ what ever") (bytes "a(b) 002") (bytes "2") 8 8 (record { identifier = bytes "a"; reads = refl })
     (record { identifier = bytes "a"; reads = refl }) demand3.two-not-one refl (lit≤ tt) (lit≤ tt)
 
--- ==== Take any well-formed version 1 field with at least one result, and put any well-formed result whose method version isn't 1 before or
-
--- after any of its results: the answer stays, the report is the same byte for byte, and where it fits the ignored count is one higher
+-- ==== a newer method version
 
 -- x is y with one ignored result more
 pub record OneMoreIgnored (x y : Reporting) : Type 0 where
@@ -43,7 +40,9 @@ pub record OneMoreIgnored (x y : Reporting) : Type 0 where
   pub left : x .left ≡ y .left
   pub ignored : y .answer .number ≡ 0 → x .answer .ignored ≡ suc (y .answer .ignored)
 
--- for every such field that is within the size limit with the result put in
+-- Take any well-formed version 1 field with at least one result, and put any well-formed result whose method version isn't 1 before or after any of its
+-- results: the answer stays, the report is the same byte for byte, and where it fits the ignored count is one higher: for every such field that is within
+-- the size limit with the result put in
 pub newer-result : (b w : List ℕ) (r : Result) → WellFormed b → IsResult w r → (r .methodspec .version ≡ one → ⊥)
     → (k : ℕ) → List·Memᴰ k (insertionPlaces b) → WithinLimit (insertAt k w b) → (old : List ℕ) → OneMoreIgnored (reports (insertAt k w b) old) (reports b old)
 newer-result b w r good W ne k K l old =
@@ -71,6 +70,10 @@ result-example : (k : ℕ) → List·Memᴰ k (2 ∷ 6 ∷ 36 ∷ 37 ∷ 36 ∷ 
     → OneMoreIgnored (reports (insertAt k newer field) old) (reports field old)
 unfolding body-opened.opened
 result-example k K = newer-result field newer _ refl refl demand3.two-not-one k K (rw (insertAt-length k newer field) (lit≤ tt))
+
+places-example : length (insertionPlaces field) ≡ 8
+unfolding body-opened.opened
+places-example = four-places field refl
 
 -- the word none is well-formed, and has no place to put a result
 none-example : WellFormed (bytes "a; none") × (insertionPlaces (bytes "a; none") ≡ [])

@@ -4,13 +4,13 @@ use Prim.Native.Nat.{ℕ, _≤_, _<_}
 use native.Mathlib.Omega.{arith}
 use mathlib.Core.Path.{_≡_, refl, ap}
 use mathlib.Core.List.{List, _∷_}
-use lib.Dec.{lit≤}
+use lib.Dec.{lit≤, lit<}
 use lib.ListN.{length, getD, take}
 use Rattle.base_readers.specs.Texts.{bytes, same}
 use Rattle.lexis_rules.specs.declared.VersionNumber.the-variants.{Exact, Large}
 use Rattle.lexis_rules.specs.Pieces.{decimal}
 use Rattle.lexis_rules.specs.Words.{counted}
-use Rattle.lexis_rules.specs.Numbers.{largest, numberOf, isOne}
+use Rattle.lexis_rules.specs.Numbers.{largest, numberOf as versionNumber, isOne}
 use Rattle.lexis_laws.proofs.VersionNumbers as numbers
 use Rattle.report_rules.specs.Newer.{Names, WithinLimit}
 use Rattle.report_rules.proofs.Unfolding as body-opened
@@ -19,26 +19,30 @@ use Rattle.promises.specs.Calls.{reports}
 
 -- ==== It is to answer the number up to 999,999 and "large" above that
 
-pub number-exact : (xs : List ℕ) → decimal 0 xs ≤ largest → numberOf xs ≡ Exact (decimal 0 xs)
+pub number-exact : (xs : List ℕ) → decimal 0 xs ≤ largest → versionNumber xs ≡ Exact (decimal 0 xs)
 number-exact xs = numbers.exact-is (decimal 0 xs)
 
-pub number-large : (xs : List ℕ) → largest < decimal 0 xs → numberOf xs ≡ Large
+pub number-large : (xs : List ℕ) → largest < decimal 0 xs → versionNumber xs ≡ Large
 number-large xs = numbers.large-is (decimal 0 xs)
+
+numbers-example : (versionNumber (bytes "0999999") ≡ Exact 999999) × (versionNumber (bytes "1000000") ≡ Large)
+unfolding body-opened.opened
+numbers-example = (number-exact (bytes "0999999") (lit≤ tt), number-large (bytes "1000000") (lit< tt))
 
 -- ==== leading zeros not counted
 
-pub number-zero : (xs : List ℕ) → numberOf (code "0" ∷ xs) ≡ numberOf xs
+pub number-zero : (xs : List ℕ) → versionNumber (code "0" ∷ xs) ≡ versionNumber xs
 number-zero = numbers.number-zero
 
 -- the number is that of the digits that count, which the `v` line shows
-pub number-counted : (xs : List ℕ) → numberOf (counted xs) ≡ numberOf xs
+pub number-counted : (xs : List ℕ) → versionNumber (counted xs) ≡ versionNumber xs
 number-counted = numbers.number-counted
 
 -- ==== Answers and reports in 01 stay the same
 
 -- a version was 1 where the digits that count are the one byte "1"; it is 1 by its number exactly there, for every digit run, and a large
 -- number is not 1
-pub one-same : (xs : List ℕ) → isOne (numberOf xs) ≡ same (counted xs) (bytes "1")
+pub one-same : (xs : List ℕ) → isOne (versionNumber xs) ≡ same (counted xs) (bytes "1")
 one-same = numbers.one-same
 
 -- so demand 3 holds in its old words: header versions whose digits are not the one byte "1" (of method versions only the number is told)
