@@ -150,7 +150,7 @@ record Built (z : Sets) (n : ℕ) : Type 0 where
 built-not : (a b n : ℕ) → failed a b ≡ built n → ⊥
 built-not a b n e = let o : _≡_ {A = ℕ} 0 1 = cc in omega arith
 
-built-none : (n : ℕ) → none ≡ built n → ⊥
+pub built-none : (n : ℕ) → none ≡ built n → ⊥
 built-none n e = let o : _≡_ {A = ℕ} 0 1 = cc in omega arith
 
 built-same : (n m : ℕ) → built n ≡ built m → n ≡ m

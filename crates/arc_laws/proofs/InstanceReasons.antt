@@ -1,10 +1,9 @@
 -- Reasons (c) to (e), which speak of instances: what the sets say of the highest instance, of empty places and of chain values is what the fields say.
 -- By the invariant of gathering; of a test that holds somewhere, by induction.
-use Prim.Native.Nat.{ℕ, zero, suc, _-_, _≤_, _<_, zero-le}
-use native.Mathlib.Nat.{not-suc-le-zero}
+use Prim.Native.Nat.{ℕ, zero, suc, _-_, _≤_, zero-le}
 use native.Mathlib.Omega.{arith}
 use mathlib.Core.Path.{_≡_, refl, sym, ap, _∙_}
-use mathlib.Core.Bool.{Bool, true, false, cond, not, _&&_, _||_}
+use mathlib.Core.Bool.{Bool, true, false, not, _&&_}
 use mathlib.Core.List.{List, [], _∷_, List·Memᴰ, List·Memᴰ·head, List·Memᴰ·tail, List·Memᴰ·not-nil, List·Memᴰ·cases-cons}
 use mathlib.Core.Logic.{_⊎_, inl, inr}
 use lib.Dec.{eqb, ltb}
@@ -16,12 +15,12 @@ use Rattle.block_rules.specs.Fields.{Field, bodyOf}
 use Rattle.arc_rules.specs.declared.Kind.{Kind}
 use Rattle.arc_rules.specs.declared.Kind.the-variants.{Results, Signature, Seal, Other}
 use Rattle.arc_rules.specs.Sets.{lastInstance, Said}
-use Rattle.arc_rules.specs.Chain.{Sets, placeOf, anyEmpty, prescribed}
+use Rattle.arc_rules.specs.Chain.{Sets, anyEmpty, prescribed}
 use Rattle.arc_rules.specs.Accepted.{kindOf, isArc, saidBy, sameKind, standsAt, fieldsAt, cvPrescribed}
 use Rattle.arc_rules.specs.Reasons.{instanceOf, highestInstance, lacks, anyInstance, emptyPlace, sealHas, anySeal, lastFails, otherValue}
 use Rattle.arc_laws.proofs.Counting.{says-range, says-other, stands-not, stands-own, stands-only, count-some, count-field}
 use Rattle.arc_laws.proofs.Gathering.{Told, NonePast, higher}
-use Rattle.arc_laws.proofs.Acceptance.{Full, places-full, full-places, Prescribed, values-prescribed, prescribed-values}
+use Rattle.arc_laws.proofs.Acceptance.{places-full, full-places, Prescribed, values-prescribed, prescribed-values}
 
 -- ==== the highest instance
 

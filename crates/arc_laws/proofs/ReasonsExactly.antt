@@ -5,15 +5,16 @@ use native.Mathlib.Omega.{arith}
 use mathlib.Core.Path.{_≡_, refl, sym, ap, _∙_}
 use mathlib.Core.Bool.{Bool, true, false, not}
 use mathlib.Core.List.{List}
-use lib.Dec.{eqb}
+use lib.Dec.{eqb, lit≤}
 use lib.ListN.{getD, take}
 use Rattle.base_sequences.proofs.Booleans.{both}
 use Rattle.block_rules.specs.Fields.{Field, fields}
-use Rattle.arc_rules.specs.Chain.{Sets, noSets, gathered, Outcome, none, failed, built, anyEmpty, prescribed, completeOutcome, outcomeOf, outcome, judge}
+use Rattle.arc_rules.specs.Chain.{Sets, noSets, gathered, Outcome, none, failed, built, anyEmpty, prescribed, completeOutcome, outcomeOf, outcome, Answer, judge}
 use Rattle.arc_rules.specs.Reasons.{firstUnread, firstRepeating, highestInstance, lacks, anyInstance, emptyPlace, lastFails, otherValue}
+use Rattle.arc_rules.specs.Terms.{Known}
 use Rattle.arc_laws.proofs.Gathering.{Told, sets-told}
 use Rattle.arc_laws.proofs.FirstFields.{unread-told, repeated-told}
-use Rattle.arc_laws.proofs.Numbers.{reason-when}
+use Rattle.arc_laws.proofs.Numbers.{reason-when, when-fails}
 use Rattle.arc_laws.proofs.InstanceReasons.{highest-told, empty-told, fail-told, value-told, no-instance}
 
 -- ==== the first reason that applies
@@ -125,7 +126,7 @@ one-reason o r s f g p q ne = absurd (ne (ap reasonOf (sym p ∙ q)))
 
 module _ (fs : List Field) where
   -- there is no reason but (a) to (e)
-  pub reasons : (r f : ℕ) → outcome fs ≡ failed r f → (1 ≤ r) × (r ≤ 5)
+  reasons : (r f : ℕ) → outcome fs ≡ failed r f → (1 ≤ r) × (r ≤ 5)
   reasons r f q =
       elim (first fs) [
         | a n u o ↦ given 1 (suc n) o (omega arith)
@@ -256,6 +257,21 @@ module _ (fs : List Field) where
         | no u i p l v o ↦ absurd (both (otherValue fs) v (h .1 .1 .1 .1))
       ]
 
+  -- (c) to (e) name no field
+  others-when : (r f : ℕ) → 3 ≤ r → outcome fs ≡ failed r f → outcome fs ≡ failed r 0
+  others-when r f h q =
+      elim (first fs) [
+        | a n u o ↦ one-reason _ 1 r (suc n) f o q (λ z. omega (arith, z, h))
+        | b u n i o ↦ one-reason _ 2 r (suc n) f o q (λ z. omega (arith, z, h))
+        | c u i p o ↦ o ∙ same 3 o
+        | d u i p l o ↦ o ∙ same 4 o
+        | e u i p l v o ↦ o ∙ same 5 o
+        | no u i p l v o ↦ absurd (o r f q)
+      ]
+    where
+      same : (s : ℕ) → outcome fs ≡ failed s 0 → failed s 0 ≡ failed r 0
+      same s o = ap (λ (x : ℕ). failed x 0) (ap reasonOf (sym o ∙ q))
+
 -- ==== the answer
 
 pub judge-reasons : (block vs : List ℕ) → judge block vs .reason ≤ 5
@@ -264,3 +280,41 @@ judge-reasons block vs = go (judge block vs .reason) refl
     go : (r : ℕ) → judge block vs .reason ≡ r → judge block vs .reason ≤ 5
     go zero q = omega (arith, q)
     go (suc r) q = let w = reason-when block vs (suc r) (omega arith) q in omega (arith, q, reasons (fields block .items) (suc r) (w .0) (w .1))
+
+module _ (block vs : List ℕ) (k : Known block) where
+  abbrev given : List Field
+  given = fields block .items
+
+  -- the answer has the reason of the outcome
+  pub judge-others : 3 ≤ judge block vs .reason → outcome given ≡ failed (judge block vs .reason) 0
+  judge-others h =
+      let w = reason-when block vs (judge block vs .reason) (omega arith) refl in
+      others-when given (judge block vs .reason) (w .0) h (w .1)
+
+  reasoned : (r f : ℕ) → outcome given ≡ failed r f → judge block vs .reason ≡ r
+  reasoned r f o = ap (λ (x : Answer). x .reason) (when-fails block vs r f k o)
+
+  pub judge-unread : (judge block vs .reason ≡ 1 → 1 ≤ firstUnread given)
+      × (1 ≤ firstUnread given → judge block vs .reason ≡ 1)
+  judge-unread =
+      ((λ e. (let w = reason-when block vs 1 (lit≤ tt) e in unread-when given (w .0) (w .1))), λ h. reasoned 1 (firstUnread given) (when-unread given h))
+
+  pub judge-repeated : (judge block vs .reason ≡ 2 → (firstUnread given ≡ 0) × (1 ≤ firstRepeating given))
+      × ((firstUnread given ≡ 0) × (1 ≤ firstRepeating given) → judge block vs .reason ≡ 2)
+  judge-repeated =
+      ((λ e. (let w = reason-when block vs 2 (lit≤ tt) e in repeated-when given (w .0) (w .1))), λ h. reasoned 2 (firstRepeating given) (when-repeated given h))
+
+  pub judge-empty : (judge block vs .reason ≡ 3 → (firstUnread given ≡ 0) × ((firstRepeating given ≡ 0) × (emptyPlace given ≡ true)))
+      × ((firstUnread given ≡ 0) × ((firstRepeating given ≡ 0) × (emptyPlace given ≡ true)) → judge block vs .reason ≡ 3)
+  judge-empty =
+      ((λ e. (let w = reason-when block vs 3 (lit≤ tt) e in empty-when given (w .0) (w .1))), λ h. reasoned 3 0 (when-empty given h))
+
+  pub judge-last : (judge block vs .reason ≡ 4 → (firstUnread given ≡ 0) × ((firstRepeating given ≡ 0) × ((emptyPlace given ≡ false) × (lastFails given ≡ true))))
+      × ((firstUnread given ≡ 0) × ((firstRepeating given ≡ 0) × ((emptyPlace given ≡ false) × (lastFails given ≡ true))) → judge block vs .reason ≡ 4)
+  judge-last =
+      ((λ e. (let w = reason-when block vs 4 (lit≤ tt) e in last-when given (w .0) (w .1))), λ h. reasoned 4 0 (when-last given h))
+
+  pub judge-value : (judge block vs .reason ≡ 5 → (firstUnread given ≡ 0) × ((firstRepeating given ≡ 0) × ((emptyPlace given ≡ false) × ((lastFails given ≡ false) × (otherValue given ≡ true)))))
+      × ((firstUnread given ≡ 0) × ((firstRepeating given ≡ 0) × ((emptyPlace given ≡ false) × ((lastFails given ≡ false) × (otherValue given ≡ true)))) → judge block vs .reason ≡ 5)
+  judge-value =
+      ((λ e. (let w = reason-when block vs 5 (lit≤ tt) e in value-when given (w .0) (w .1))), λ h. reasoned 5 0 (when-value given h))

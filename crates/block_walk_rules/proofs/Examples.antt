@@ -11,7 +11,7 @@ use Rattle.block_walk_rules.specs.declared.Step.the-variants.{Field, Las
 use Rattle.block_walk_rules.specs.Steps.{given, firstFrom, stepFrom, pastFrom}
 use Rattle.block_walk_rules.specs.Whole.{stepsFrom, inOrder}
 
-unfoldable opened : Unit {0}
+unfoldable pub opened : Unit {0}
 unfolding block.opened given firstFrom stepsFrom inOrder
 opened = tt
 

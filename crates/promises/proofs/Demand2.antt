@@ -1,8 +1,8 @@
 -- Demand 2: the report of a field, the stripped block and the judgement of a chain are those of RFC 8601, RFC 8617 and document 01. Each theorem
 -- stands under the sentence that it proves, with examples.
-use Prim.Native.Nat.{ℕ, _+_, _*_, _≤_, _<_}
+use Prim.Native.Nat.{ℕ, _+_, _*_, _≤_}
 use native.Mathlib.Omega.{arith}
-use mathlib.Core.Path.{_≡_, refl, sym, ap, _∙_}
+use mathlib.Core.Path.{_≡_, refl, ap}
 use mathlib.Core.Bool.{true, false, cond}
 use mathlib.Core.List.{List, [], _∷_, _++_, map, List·Memᴰ, List·Memᴰ·eq-of-singleton}
 use lib.Dec.{lit≤}
@@ -206,91 +206,86 @@ pub judge-failed : (block verdicts : List ℕ) (r f : ℕ) → judge-terms.Known
     → judges block verdicts ≡ failedFor r f
 judge-failed block verdicts r f k o = rw (judge-ways.when-fails block verdicts r f k o)
 
--- Failed for the first reason that applies: each exactly where it applies (`Reasons.antt`) and none before it does. Reasons a and b name the first such
--- field, in b the repeating one, by its number among all fields from 1; the others give 0
+-- Failed for the first reason that applies: each exactly where it applies (`Reasons.antt` of `arc_rules`) and none before it does
 module _ (block verdicts : List ℕ) (k : judge-terms.Known block) where
   abbrev fs : List Field
   fs = fields block .items
 
   -- (a) an unreadable field
-  pub judge-failed-a : Exactly (judges block verdicts .reason ≡ 1) (1 ≤ firstUnread fs)
-  judge-failed-a = (
-    (λ e. (let w = judge-ways.reason-when block verdicts 1 (lit≤ tt) e in reason-laws.unread-when fs (w .0) (w .1))),
-    λ h. ap (λ (x : Judged). x .reason) (judge-failed block verdicts 1 (firstUnread fs) k (reason-laws.when-unread fs h)),
-  )
-
-  pub judge-answers-a : 1 ≤ firstUnread fs → judges block verdicts ≡ failedFor 1 (firstUnread fs)
-  judge-answers-a h = judge-failed block verdicts 1 (firstUnread fs) k (reason-laws.when-unread fs h)
+  pub judge-failed-a : Exactly (judges block verdicts .reason ≡ 1)
+      (1 ≤ firstUnread fs)
+  judge-failed-a = reason-laws.judge-unread block verdicts k
 
   -- (b) the first repeated kind, in block order, at one instance
-  pub judge-failed-b : Exactly (judges block verdicts .reason ≡ 2) ((firstUnread fs ≡ 0) × (1 ≤ firstRepeating fs))
-  judge-failed-b = (
-    (λ e. (let w = judge-ways.reason-when block verdicts 2 (lit≤ tt) e in reason-laws.repeated-when fs (w .0) (w .1))),
-    λ h. ap (λ (x : Judged). x .reason) (judge-failed block verdicts 2 (firstRepeating fs) k (reason-laws.when-repeated fs h)),
-  )
-
-  pub judge-answers-b : (firstUnread fs ≡ 0) × (1 ≤ firstRepeating fs) → judges block verdicts ≡ failedFor 2 (firstRepeating fs)
-  judge-answers-b h = judge-failed block verdicts 2 (firstRepeating fs) k (reason-laws.when-repeated fs h)
+  pub judge-failed-b : Exactly (judges block verdicts .reason ≡ 2)
+      ((firstUnread fs ≡ 0) × (1 ≤ firstRepeating fs))
+  judge-failed-b = reason-laws.judge-repeated block verdicts k
 
   -- (c) with N the highest instance, an empty place in 1 to N
-  pub judge-failed-c : Exactly (judges block verdicts .reason ≡ 3) ((firstUnread fs ≡ 0) × ((firstRepeating fs ≡ 0) × (emptyPlace fs ≡ true)))
-  judge-failed-c = (
-    (λ e. (let w = judge-ways.reason-when block verdicts 3 (lit≤ tt) e in reason-laws.empty-when fs (w .0) (w .1))),
-    λ h. ap (λ (x : Judged). x .reason) (judge-failed block verdicts 3 0 k (reason-laws.when-empty fs h)),
-  )
-
-  pub judge-answers-c : (firstUnread fs ≡ 0) × ((firstRepeating fs ≡ 0) × (emptyPlace fs ≡ true)) → judges block verdicts ≡ failedFor 3 0
-  judge-answers-c h = judge-failed block verdicts 3 0 k (reason-laws.when-empty fs h)
+  pub judge-failed-c : Exactly (judges block verdicts .reason ≡ 3)
+      ((firstUnread fs ≡ 0) × ((firstRepeating fs ≡ 0) × (emptyPlace fs ≡ true)))
+  judge-failed-c = reason-laws.judge-empty block verdicts k
 
   -- (d) the seal at N has cv fail
-  pub judge-failed-d : Exactly (judges block verdicts .reason ≡ 4) ((firstUnread fs ≡ 0) × ((firstRepeating fs ≡ 0) × ((emptyPlace fs ≡ false) × (lastFails fs ≡ true))))
-  judge-failed-d = (
-    (λ e. (let w = judge-ways.reason-when block verdicts 4 (lit≤ tt) e in reason-laws.last-when fs (w .0) (w .1))),
-    λ h. ap (λ (x : Judged). x .reason) (judge-failed block verdicts 4 0 k (reason-laws.when-last fs h)),
-  )
-
-  pub judge-answers-d : (firstUnread fs ≡ 0) × ((firstRepeating fs ≡ 0) × ((emptyPlace fs ≡ false) × (lastFails fs ≡ true))) → judges block verdicts ≡ failedFor 4 0
-  judge-answers-d h = judge-failed block verdicts 4 0 k (reason-laws.when-last fs h)
+  pub judge-failed-d : Exactly (judges block verdicts .reason ≡ 4)
+      ((firstUnread fs ≡ 0) × ((firstRepeating fs ≡ 0) × ((emptyPlace fs ≡ false) × (lastFails fs ≡ true))))
+  judge-failed-d = reason-laws.judge-last block verdicts k
 
   -- (e) the seal at 1 isn't none or a later one isn't pass
-  pub judge-failed-e : Exactly (judges block verdicts .reason ≡ 5) ((firstUnread fs ≡ 0) × ((firstRepeating fs ≡ 0) × ((emptyPlace fs ≡ false) × ((lastFails fs ≡ false) × (otherValue fs ≡ true)))))
-  judge-failed-e = (
-    (λ e. (let w = judge-ways.reason-when block verdicts 5 (lit≤ tt) e in reason-laws.value-when fs (w .0) (w .1))),
-    λ h. ap (λ (x : Judged). x .reason) (judge-failed block verdicts 5 0 k (reason-laws.when-value fs h)),
-  )
-
-  pub judge-answers-e : (firstUnread fs ≡ 0) × ((firstRepeating fs ≡ 0) × ((emptyPlace fs ≡ false) × ((lastFails fs ≡ false) × (otherValue fs ≡ true)))) → judges block verdicts ≡ failedFor 5 0
-  judge-answers-e h = judge-failed block verdicts 5 0 k (reason-laws.when-value fs h)
+  pub judge-failed-e : Exactly (judges block verdicts .reason ≡ 5)
+      ((firstUnread fs ≡ 0) × ((firstRepeating fs ≡ 0) × ((emptyPlace fs ≡ false) × ((lastFails fs ≡ false) × (otherValue fs ≡ true)))))
+  judge-failed-e = reason-laws.judge-value block verdicts k
 
   -- there is no other reason
   pub judge-reasons : judges block verdicts .reason ≤ 5
   judge-reasons = reason-laws.judge-reasons block verdicts
 
--- a block for each, with its neighbours: a field that doesn't read; a kind repeated at one instance; no seal; a seal with fail, and with pass
+  -- Reasons a and b name the first such field (in b the repeating one) by its number among all fields from 1, the others give 0
+  pub judge-field-a : judges block verdicts .reason ≡ 1 → judges block verdicts ≡ failedFor 1 (firstUnread fs)
+  judge-field-a e = judge-failed block verdicts 1 (firstUnread fs) k (reason-laws.when-unread fs (judge-failed-a .0 e))
+
+  pub judge-field-b : judges block verdicts .reason ≡ 2 → judges block verdicts ≡ failedFor 2 (firstRepeating fs)
+  judge-field-b e = judge-failed block verdicts 2 (firstRepeating fs) k (reason-laws.when-repeated fs (judge-failed-b .0 e))
+
+  pub judge-field-0 : 3 ≤ judges block verdicts .reason → judges block verdicts ≡ failedFor (judges block verdicts .reason) 0
+  judge-field-0 h = let q = reason-laws.judge-others block verdicts k h in judge-failed block verdicts (judges block verdicts .reason) 0 k q
+
+-- a block for each: a field that doesn't read; each kind repeated at its instance; no seal; a seal with fail, and with pass
 abbrev set : List ℕ → List ℕ
 set cv =
     bytes "ARC-Authentication-Results: i=1;\r\nARC-Message-Signature: i=1;a=;b=;bh=;d=;h=;s=\r\n"
     ++ (bytes "ARC-Seal: i=1;a=;b=;d=;s=;cv=" ++ (cv ++ bytes "\r\n"))
 
-a-example : judges (bytes "A:\r\nARC-Seal: i=1\r\n") [] ≡ failedFor 1 2
-unfolding reason-opened.opened
-a-example = judge-answers-a (bytes "A:\r\nARC-Seal: i=1\r\n") [] (lit≤ tt, refl) (lit≤ tt)
+abbrev unreadable : List ℕ
+unreadable = bytes "A:\r\nARC-Seal: i=1\r\n"
 
-b-example : judges (set (bytes "none") ++ (bytes "A:\r\n" ++ set (bytes "none"))) [] ≡ failedFor 2 5
+a-example : judges unreadable [] ≡ failedFor 1 2
 unfolding reason-opened.opened
-b-example = judge-answers-b (set (bytes "none") ++ (bytes "A:\r\n" ++ set (bytes "none"))) [] (lit≤ tt, refl) (refl, lit≤ tt)
+a-example = judge-field-a unreadable [] (lit≤ tt, refl) (judge-failed-a unreadable [] (lit≤ tt, refl) .1 (lit≤ tt))
 
-c-example : judges (bytes "ARC-Authentication-Results: i=1;\r\n") [] ≡ failedFor 3 0
-unfolding reason-opened.opened
-c-example = judge-answers-c (bytes "ARC-Authentication-Results: i=1;\r\n") [] (lit≤ tt, refl) (refl, (refl, refl))
+abbrev repeated : List ℕ
+repeated = set (bytes "none") ++ (bytes "A:\r\n" ++ set (bytes "none"))
 
-d-example : judges (set (bytes "fail")) [] ≡ failedFor 4 0
+b-example : judges repeated [] ≡ failedFor 2 5
 unfolding reason-opened.opened
-d-example = judge-answers-d (set (bytes "fail")) [] (lit≤ tt, refl) (refl, (refl, (refl, refl)))
+b-example = judge-field-b repeated [] (lit≤ tt, refl) (judge-failed-b repeated [] (lit≤ tt, refl) .1 (refl, lit≤ tt))
 
-e-example : judges (set (bytes "pass")) [] ≡ failedFor 5 0
+abbrev unsealed : List ℕ
+unsealed = bytes "ARC-Authentication-Results: i=1;\r\nARC-Message-Signature: i=1;a=;b=;bh=;d=;h=;s=\r\n"
+
+c-example : (judges unsealed [] .reason ≡ 3) × (judges unsealed [] ≡ failedFor 3 0)
 unfolding reason-opened.opened
-e-example = judge-answers-e (set (bytes "pass")) [] (lit≤ tt, refl) (refl, (refl, (refl, (refl, refl))))
+c-example = (judge-failed-c unsealed [] (lit≤ tt, refl) .1 (refl, (refl, refl)), judge-field-0 unsealed [] (lit≤ tt, refl) (lit≤ tt))
+
+d-example : (judges (set (bytes "fail")) [] .reason ≡ 4) × (judges (set (bytes "fail")) [] ≡ failedFor 4 0)
+unfolding reason-opened.opened
+d-example =
+    (judge-failed-d (set (bytes "fail")) [] (lit≤ tt, refl) .1 (refl, (refl, (refl, refl))), judge-field-0 (set (bytes "fail")) [] (lit≤ tt, refl) (lit≤ tt))
+
+e-example : (judges (set (bytes "pass")) [] .reason ≡ 5) × (judges (set (bytes "pass")) [] ≡ failedFor 5 0)
+unfolding reason-opened.opened
+e-example =
+    (judge-failed-e (set (bytes "pass")) [] (lit≤ tt, refl) .1 (refl, (refl, (refl, (refl, refl)))), judge-field-0 (set (bytes "pass")) [] (lit≤ tt, refl) (lit≤ tt))
 
 -- ==== the judgement of a chain: none
 
@@ -302,7 +297,7 @@ judge-none block verdicts k =
     let l = judge-laws.none-exactly block verdicts k in
     ((λ e. l .0 (ap (λ (x : Judged). x .number) e, ap (λ (x : Judged). x .outcome) e)), (λ h. rw (l .1 h)))
 
--- a block without ARC fields, and what is known of one that is answered so
+-- a block without ARC fields
 none-example : judges (bytes "A:\r\n") (9 ∷ []) ≡ record { number = 0; place = 0; outcome = 0; reason = 0; field = 0; instances = 0; status = 0; oldest = 0 }
 unfolding arc-opened.opened
 none-example = judge-none (bytes "A:\r\n") (9 ∷ []) (lit≤ tt, refl) .1 others
