@@ -19,6 +19,11 @@ use Rattle.arc_laws.proofs.InstanceReasons.{highest-told, empty-told, f
 
 -- ==== the first reason that applies
 
+-- without a reason: none if there are no such fields, else built, with N
+abbrev unfailed : ℕ → Outcome
+unfailed zero = none
+unfailed (suc n) = built (suc n)
+
 -- what the fields say of the reasons, in order, and the outcome
 data First (fs : List Field) : Type 0 where
   a : (n : ℕ) → firstUnread fs ≡ suc n → outcome fs ≡ failed 1 (suc n) → First fs
@@ -28,13 +33,11 @@ data First (fs : List Field) : Type 0 where
   e : firstUnread fs ≡ 0 → firstRepeating fs ≡ 0 → emptyPlace fs ≡ false → lastFails fs ≡ false → otherValue fs ≡ true → outcome fs ≡ failed 5 0
       → First fs
   no : firstUnread fs ≡ 0 → firstRepeating fs ≡ 0 → emptyPlace fs ≡ false → lastFails fs ≡ false → otherValue fs ≡ false
-      → ((r f : ℕ) → outcome fs ≡ failed r f → ⊥) → First fs
+      → outcome fs ≡ unfailed (highestInstance fs) → First fs
 
-none-not : (r f : ℕ) → none ≡ failed r f → ⊥
-none-not r f q = let o : _≡_ {A = ℕ} 0 1 = cc in omega arith
-
-built-not : (n r f : ℕ) → built n ≡ failed r f → ⊥
-built-not n r f q = let o : _≡_ {A = ℕ} 0 1 = cc in omega arith
+unfailed-not : (n r f : ℕ) → unfailed n ≡ failed r f → ⊥
+unfailed-not zero r f q = let o : _≡_ {A = ℕ} 0 1 = cc in omega arith
+unfailed-not (suc n) r f q = let o : _≡_ {A = ℕ} 0 1 = cc in omega arith
 
 module _ (fs : List Field) where
   abbrev sets : Sets
@@ -75,9 +78,10 @@ module _ (fs : List Field) where
 
           go : (v : Bool) → otherValue fs ≡ v → prescribed (take highest (sets .cvs)) ≡ not v → First fs
           go true q w = e u r p l q (complete ∙ rw (completeOutcome, x, y, w))
-          go false q w =
-              let o : outcome fs ≡ built highest = complete ∙ rw (completeOutcome, x, y, w) in
-              no u r p l q (λ s f i. built-not highest s f (sym o ∙ i))
+          go false q w = no u r p l q (complete ∙ (rw (completeOutcome, x, y, w) (whole h)))
+            where
+              whole : highest ≡ suc m → built highest ≡ unfailed highest
+              whole h = rw h
 
       by-last : emptyPlace fs ≡ false → (v : Bool) → lastFails fs ≡ v → First fs
       unfolding completeOutcome
@@ -98,7 +102,7 @@ module _ (fs : List Field) where
     by-instance zero h =
         let w : sets .highest ≡ 0 = highest-told fs sets told ∙ h in
         let o : outcome fs ≡ none = rw (outcomeOf, read, once, w) in
-        no u r (ap (anyInstance (lacks fs)) h) (no-instance _ fs h) (no-instance _ fs h) (λ s f i. none-not s f (sym o ∙ i))
+        no u r (ap (anyInstance (lacks fs)) h) (no-instance _ fs h) (no-instance _ fs h) (o ∙ ap unfailed (sym h))
 
   by-repeated : firstUnread fs ≡ 0 → (m : ℕ) → firstRepeating fs ≡ m → First fs
   unfolding outcomeOf
@@ -134,7 +138,7 @@ module _ (fs : List Field) where
         | c u i p o ↦ given 3 0 o (omega arith)
         | d u i p l o ↦ given 4 0 o (omega arith)
         | e u i p l v o ↦ given 5 0 o (omega arith)
-        | no u i p l v o ↦ absurd (o r f q)
+        | no u i p l v o ↦ absurd (unfailed-not (highestInstance fs) r f (sym o ∙ q))
       ]
     where
       given : (s g : ℕ) → outcome fs ≡ failed s g → (1 ≤ s) × (s ≤ 5) → (1 ≤ r) × (r ≤ 5)
@@ -151,7 +155,7 @@ module _ (fs : List Field) where
         | c u i p o ↦ one-reason _ 3 1 0 f o q (λ z. omega (arith, z))
         | d u i p l o ↦ one-reason _ 4 1 0 f o q (λ z. omega (arith, z))
         | e u i p l v o ↦ one-reason _ 5 1 0 f o q (λ z. omega (arith, z))
-        | no u i p l v o ↦ absurd (o 1 f q)
+        | no u i p l v o ↦ absurd (unfailed-not (highestInstance fs) 1 f (sym o ∙ q))
       ]
 
   pub when-unread : 1 ≤ firstUnread fs → outcome fs ≡ failed 1 (firstUnread fs)
@@ -174,7 +178,7 @@ module _ (fs : List Field) where
         | c u i p o ↦ one-reason _ 3 2 0 f o q (λ z. omega (arith, z))
         | d u i p l o ↦ one-reason _ 4 2 0 f o q (λ z. omega (arith, z))
         | e u i p l v o ↦ one-reason _ 5 2 0 f o q (λ z. omega (arith, z))
-        | no u i p l v o ↦ absurd (o 2 f q)
+        | no u i p l v o ↦ absurd (unfailed-not (highestInstance fs) 2 f (sym o ∙ q))
       ]
 
   pub when-repeated : (firstUnread fs ≡ 0) × (1 ≤ firstRepeating fs) → outcome fs ≡ failed 2 (firstRepeating fs)
@@ -197,7 +201,7 @@ module _ (fs : List Field) where
         | c u i p o ↦ (u, (i, p))
         | d u i p l o ↦ one-reason _ 4 3 0 f o q (λ z. omega (arith, z))
         | e u i p l v o ↦ one-reason _ 5 3 0 f o q (λ z. omega (arith, z))
-        | no u i p l v o ↦ absurd (o 3 f q)
+        | no u i p l v o ↦ absurd (unfailed-not (highestInstance fs) 3 f (sym o ∙ q))
       ]
 
   pub when-empty : (firstUnread fs ≡ 0) × ((firstRepeating fs ≡ 0) × (emptyPlace fs ≡ true)) → outcome fs ≡ failed 3 0
@@ -220,7 +224,7 @@ module _ (fs : List Field) where
         | c u i p o ↦ one-reason _ 3 4 0 f o q (λ z. omega (arith, z))
         | d u i p l o ↦ (u, (i, (p, l)))
         | e u i p l v o ↦ one-reason _ 5 4 0 f o q (λ z. omega (arith, z))
-        | no u i p l v o ↦ absurd (o 4 f q)
+        | no u i p l v o ↦ absurd (unfailed-not (highestInstance fs) 4 f (sym o ∙ q))
       ]
 
   pub when-last : (firstUnread fs ≡ 0) × ((firstRepeating fs ≡ 0) × ((emptyPlace fs ≡ false) × (lastFails fs ≡ true))) → outcome fs ≡ failed 4 0
@@ -243,7 +247,7 @@ module _ (fs : List Field) where
         | c u i p o ↦ one-reason _ 3 5 0 f o q (λ z. omega (arith, z))
         | d u i p l o ↦ one-reason _ 4 5 0 f o q (λ z. omega (arith, z))
         | e u i p l v o ↦ (u, (i, (p, (l, v))))
-        | no u i p l v o ↦ absurd (o 5 f q)
+        | no u i p l v o ↦ absurd (unfailed-not (highestInstance fs) 5 f (sym o ∙ q))
       ]
 
   pub when-value : (firstUnread fs ≡ 0) × ((firstRepeating fs ≡ 0) × ((emptyPlace fs ≡ false) × ((lastFails fs ≡ false) × (otherValue fs ≡ true)))) → outcome fs ≡ failed 5 0
@@ -257,6 +261,28 @@ module _ (fs : List Field) where
         | no u i p l v o ↦ absurd (both (otherValue fs) v (h .1 .1 .1 .1))
       ]
 
+  -- without a reason
+  when-unfailed : (firstUnread fs ≡ 0) × ((firstRepeating fs ≡ 0) × ((emptyPlace fs ≡ false) × ((lastFails fs ≡ false) × (otherValue fs ≡ false))))
+      → outcome fs ≡ unfailed (highestInstance fs)
+  when-unfailed h =
+      elim (first fs) [
+        | a n u o ↦ absurd (omega (arith, h .0, u))
+        | b u n i o ↦ absurd (omega (arith, h .1 .0, i))
+        | c u i p o ↦ absurd (both (emptyPlace fs) (h .1 .1 .0) p)
+        | d u i p l o ↦ absurd (both (lastFails fs) (h .1 .1 .1 .0) l)
+        | e u i p l v o ↦ absurd (both (otherValue fs) (h .1 .1 .1 .1) v)
+        | no u i p l v o ↦ o
+      ]
+
+  -- Else built, with N
+  pub else-built : (firstUnread fs ≡ 0) × ((firstRepeating fs ≡ 0) × ((emptyPlace fs ≡ false) × ((lastFails fs ≡ false) × (otherValue fs ≡ false))))
+      → 1 ≤ highestInstance fs → outcome fs ≡ built (highestInstance fs)
+  else-built h l = when-unfailed h ∙ go (highestInstance fs) l
+    where
+      go : (n : ℕ) → 1 ≤ n → unfailed n ≡ built n
+      go zero l = absurd (omega arith)
+      go (suc n) l = refl
+
   -- (c) to (e) name no field
   others-when : (r f : ℕ) → 3 ≤ r → outcome fs ≡ failed r f → outcome fs ≡ failed r 0
   others-when r f h q =
@@ -266,7 +292,7 @@ module _ (fs : List Field) where
         | c u i p o ↦ o ∙ same 3 o
         | d u i p l o ↦ o ∙ same 4 o
         | e u i p l v o ↦ o ∙ same 5 o
-        | no u i p l v o ↦ absurd (o r f q)
+        | no u i p l v o ↦ absurd (unfailed-not (highestInstance fs) r f (sym o ∙ q))
       ]
     where
       same : (s : ℕ) → outcome fs ≡ failed s 0 → failed s 0 ≡ failed r 0

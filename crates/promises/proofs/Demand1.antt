@@ -16,7 +16,8 @@ use Rattle.block_laws.proofs.Fields.{fields-place}
 use Rattle.identifier_rules.specs.Identifier.{identifier}
 use Rattle.ownlist_rules.specs.OwnList.{ownList}
 use Rattle.ownlist_rules.specs.Listed.{ownOf}
-use Rattle.strip_rules.specs.Terms as strip-terms
+use Rattle.ownlist_rules.specs.Calls.{Known}
+use Rattle.strip_rules.specs.Terms.{keptFields}
 use Rattle.strip_laws.proofs.Numbers as strip-ways
 use Rattle.report_rules.specs.Body.{Head, newer, reading}
 use Rattle.report_rules.specs.Report.{idLine, versionLine}
@@ -24,14 +25,12 @@ use Rattle.report_rules.specs.ByCase.{numberOf as answerNumber, textOf, hasRepo
 use Rattle.report_laws.proofs.AnswersByCase as report-laws
 use Rattle.report_laws.proofs.Numbers as report-ways
 use Rattle.blockreport_rules.specs.declared.Detail.{Detail}
-use Rattle.blockreport_rules.specs.Terms as block-report-terms
 use Rattle.blockreport_rules.specs.Terms.{blockText}
 use Rattle.blockreport_laws.proofs.Numbers as block-report-ways
 use Rattle.host_whose_struct.specs.Whose.{ownerCode}
 use Rattle.host_whose_struct.proofs.Numbers as whose-ways
 use Rattle.arc_rules.specs.Chain.{outcome, built, validFor}
-use Rattle.arc_rules.specs.Terms as judge-terms
-use Rattle.arc_rules.specs.Terms.{BadVerdicts}
+use Rattle.arc_rules.specs.Terms.{Known as KnownFields, BadVerdicts}
 use Rattle.arc_laws.proofs.Numbers as judge-ways
 use Rattle.arc_laws.proofs.BuiltExactly as judge-laws
 use Rattle.block_walk_rules.specs.declared.Step.the-variants.{Last}
@@ -73,19 +72,19 @@ module _ (block list old : List ℕ) where
 
   -- 6: lent output shorter than the whole output; bytes needed
   pub strip-6 : Exactly (strips block list old .answer .number ≡ 6)
-      (strip-terms.Known block list × (length old < length (bytesOf (strip-terms.keptFields block list))))
+      (Known block list × (length old < length (bytesOf (keptFields block list))))
   strip-6 = (strip-ways.six-when block list (length old), λ h. search (strip-ways.when-six block list (length old) (h .0) (h .1)))
 
-  pub strip-place-6 : strip-terms.Known block list → length old < length (bytesOf (strip-terms.keptFields block list))
-      → strips block list old .answer .place ≡ length (bytesOf (strip-terms.keptFields block list))
+  pub strip-place-6 : Known block list → length old < length (bytesOf (keptFields block list))
+      → strips block list old .answer .place ≡ length (bytesOf (keptFields block list))
   strip-place-6 k h = search (strip-ways.when-six block list (length old) k h)
 
   -- 0: done; place 0
   pub strip-0 : Exactly (strips block list old .answer .number ≡ 0)
-      (strip-terms.Known block list × (length (bytesOf (strip-terms.keptFields block list)) ≤ length old))
+      (Known block list × (length (bytesOf (keptFields block list)) ≤ length old))
   strip-0 = (strip-ways.zero-when block list (length old), λ h. search (strip-ways.when-zero block list (length old) (h .0) (h .1)))
 
-  pub strip-place-0 : strip-terms.Known block list → length (bytesOf (strip-terms.keptFields block list)) ≤ length old → strips block list old .answer .place ≡ 0
+  pub strip-place-0 : Known block list → length (bytesOf (keptFields block list)) ≤ length old → strips block list old .answer .place ≡ 0
   strip-place-0 k h = search (strip-ways.when-zero block list (length old) k h)
 
   -- there is no other number
@@ -191,21 +190,21 @@ module _ (detail : Detail) (block list old : List ℕ) where
 
   -- 6: lent output shorter than the whole output; bytes needed
   pub block-report-6 : Exactly (blockReports detail block list old .answer .number ≡ 6)
-      (block-report-terms.Known block list × (length old < length (blockText detail block list)))
+      (Known block list × (length old < length (blockText detail block list)))
   block-report-6 =
       (block-report-ways.six-when detail block list (length old), λ h. search (block-report-ways.when-six detail block list (length old) (h .0) (h .1)))
 
-  pub block-report-place-6 : block-report-terms.Known block list → length old < length (blockText detail block list)
+  pub block-report-place-6 : Known block list → length old < length (blockText detail block list)
       → blockReports detail block list old .answer .place ≡ length (blockText detail block list)
   block-report-place-6 k h = search (block-report-ways.when-six detail block list (length old) k h)
 
   -- 0: done; what the fields add is written (`blockText`), place 0
   pub block-report-0 : Exactly (blockReports detail block list old .answer .number ≡ 0)
-      (block-report-terms.Known block list × (length (blockText detail block list) ≤ length old))
+      (Known block list × (length (blockText detail block list) ≤ length old))
   block-report-0 =
       (block-report-ways.zero-when detail block list (length old), λ h. search (block-report-ways.when-zero detail block list (length old) (h .0) (h .1)))
 
-  pub block-report-done : block-report-terms.Known block list → length (blockText detail block list) ≤ length old
+  pub block-report-done : Known block list → length (blockText detail block list) ≤ length old
       → blockReports detail block list old
       ≡ record {
         answer = record { number = 0; place = 0; written = length (blockText detail block list) };
@@ -339,7 +338,7 @@ module _ (block verdicts : List ℕ) where
 
   -- 0: done; the fields are all there, and where their chain is built, there are N verdicts from 0 to 3
   pub judge-0 : Exactly (judges block verdicts .number ≡ 0)
-      (judge-terms.Known block × ((n : ℕ) → outcome (fields block .items) ≡ built n → validFor n verdicts ≡ true))
+      (KnownFields block × ((n : ℕ) → outcome (fields block .items) ≡ built n → validFor n verdicts ≡ true))
   judge-0 = (judge-ways.zero-when block verdicts, λ h. judge-ways.when-zero block verdicts (h .0) (h .1))
 
   -- the numbers are 0 to 4 and 10; but for 2 to 4 the place is 0

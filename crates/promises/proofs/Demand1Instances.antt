@@ -15,7 +15,7 @@ use Rattle.report_rules.proofs.Unfolding as body-opened
 use Rattle.blockreport_rules.specs.declared.Detail.the-variants.{Reported, Identified}
 use Rattle.blockreport_rules.proofs.Unfolding as block-report-opened
 use Rattle.host_whose_struct.proofs.WhoseExamples as whose-opened
-use Rattle.write_rules.specs.Promise.{Placed}
+use Rattle.write_rules.specs.Promise.{Reports, Placed}
 use Rattle.write_rules.proofs.Unfolding as write-opened
 use Rattle.write_laws.proofs.Lengthy.{lengthy, lengthy-reported, lengthy-body}
 use Rattle.arc_rules.proofs.Unfolding as arc-opened
@@ -53,29 +53,29 @@ abbrev badList : List ℕ
 badList = bytes "a\n\n"
 
 -- a lent buffer of one byte
-abbrev one : List ℕ
-one = bytes "!"
+abbrev lent : List ℕ
+lent = bytes "!"
 
 -- ==== stripping
 
 strip-1-instance : (list old : List ℕ) → (strips long list old .answer .number ≡ 1) × (strips long list old .answer .place ≡ 0)
 strip-1-instance list old = (demand1.strip-1 long list old .1 too-long, demand1.strip-place-1 long list old too-long)
 
-strip-5-instance : (strips sample badList one .answer .number ≡ 5) × (strips sample badList one .answer .place ≡ 2)
+strip-5-instance : (strips sample badList lent .answer .number ≡ 5) × (strips sample badList lent .answer .place ≡ 2)
 unfolding strip-opened.opened
-strip-5-instance = (demand1.strip-5 sample badList one .1 (lit≤ tt, refl), demand1.strip-place-5 sample badList one (lit≤ tt) refl)
+strip-5-instance = (demand1.strip-5 sample badList lent .1 (lit≤ tt, refl), demand1.strip-place-5 sample badList lent (lit≤ tt) refl)
 
-strip-2-instance : (strips unfinished list one .answer .number ≡ 2) × (strips unfinished list one .answer .place ≡ 4)
+strip-2-instance : (strips unfinished list lent .answer .number ≡ 2) × (strips unfinished list lent .answer .place ≡ 4)
 unfolding strip-opened.opened
 strip-2-instance = (
-  demand1.strip-2-to-4 unfinished list one 2 (lit≤ tt) (lit≤ tt) .1 (lit≤ tt, (refl, refl)),
-  demand1.strip-place-2-to-4 unfinished list one 2 (lit≤ tt) (lit≤ tt) (lit≤ tt) refl refl,
+  demand1.strip-2-to-4 unfinished list lent 2 (lit≤ tt) (lit≤ tt) .1 (lit≤ tt, (refl, refl)),
+  demand1.strip-place-2-to-4 unfinished list lent 2 (lit≤ tt) (lit≤ tt) (lit≤ tt) refl refl,
 )
 
-strip-6-instance : (strips sample list one .answer .number ≡ 6) × (strips sample list one .answer .place ≡ 19)
+strip-6-instance : (strips sample list lent .answer .number ≡ 6) × (strips sample list lent .answer .place ≡ 19)
 unfolding strip-opened.opened
 strip-6-instance =
-    (demand1.strip-6 sample list one .1 ((lit≤ tt, (refl, refl)), lit< tt), demand1.strip-place-6 sample list one (lit≤ tt, (refl, refl)) (lit< tt))
+    (demand1.strip-6 sample list lent .1 ((lit≤ tt, (refl, refl)), lit< tt), demand1.strip-place-6 sample list lent (lit≤ tt, (refl, refl)) (lit< tt))
 
 strip-0-instance :
     (strips sample list (bytes "...................!") .answer .number ≡ 0) × (strips sample list (bytes "...................!") .answer .place ≡ 0)
@@ -86,9 +86,9 @@ strip-0-instance = (
 )
 
 strip-refusal-instance :
-    strips unfinished list one ≡ record { answer = record { number = 2; place = 4; kept = 0; removed = 0; fields = 0 }; left = one }
+    strips unfinished list lent ≡ record { answer = record { number = 2; place = 4; kept = 0; removed = 0; fields = 0 }; left = lent }
 unfolding strip-opened.opened
-strip-refusal-instance = demand1.strip-refusal unfinished list one (λ e. omega (arith, e))
+strip-refusal-instance = demand1.strip-refusal unfinished list lent (λ e. omega (arith, e))
 
 -- ==== the report of one body
 
@@ -96,14 +96,14 @@ report-1-instance : (old : List ℕ) → reports long old .answer .number ≡ 1
 report-1-instance old = demand1.report-1 long old .1 too-long
 
 report-numbers-instance :
-    (reports [] one .answer .number ≡ 7)
-    × ((reports (bytes "a") one .answer .number ≡ 9)
+    (reports [] lent .answer .number ≡ 7)
+    × ((reports (bytes "a") lent .answer .number ≡ 9)
     × ((reports (bytes "a 2") (bytes ".........") .answer .number ≡ 8) × (reports (bytes "a; none") (bytes "..........") .answer .number ≡ 0)))
 unfolding body-opened.opened
 report-numbers-instance = (
-  demand1.report-0-7-8-9 [] one 7 (λ e. omega (arith, e)) (λ e. omega (arith, e)) .1 (lit≤ tt, (refl, lit≤ tt)),
+  demand1.report-0-7-8-9 [] lent 7 (λ e. omega (arith, e)) (λ e. omega (arith, e)) .1 (lit≤ tt, (refl, lit≤ tt)),
   (
-    demand1.report-0-7-8-9 (bytes "a") one 9 (λ e. omega (arith, e)) (λ e. omega (arith, e)) .1 (lit≤ tt, (refl, lit≤ tt)),
+    demand1.report-0-7-8-9 (bytes "a") lent 9 (λ e. omega (arith, e)) (λ e. omega (arith, e)) .1 (lit≤ tt, (refl, lit≤ tt)),
     (
       demand1.report-0-7-8-9 (bytes "a 2") (bytes ".........") 8 (λ e. omega (arith, e)) (λ e. omega (arith, e)) .1 (lit≤ tt, (refl, lit≤ tt)),
       demand1.report-0-7-8-9 (bytes "a; none") (bytes "..........") 0 (λ e. omega (arith, e)) (λ e. omega (arith, e)) .1 (lit≤ tt, (refl, lit≤ tt)),
@@ -111,19 +111,19 @@ report-numbers-instance = (
   ),
 )
 
-report-6-instance : (reports (bytes "a; none") one .answer .number ≡ 6) × (reports (bytes "a; none") one .answer .place ≡ 10)
+report-6-instance : (reports (bytes "a; none") lent .answer .number ≡ 6) × (reports (bytes "a; none") lent .answer .place ≡ 10)
 unfolding body-opened.opened
 report-6-instance =
-    (demand1.report-6 (bytes "a; none") one .1 (lit≤ tt, (refl, lit< tt)), demand1.report-place-6 (bytes "a; none") one (lit≤ tt) refl (lit< tt))
+    (demand1.report-6 (bytes "a; none") lent .1 (lit≤ tt, (refl, lit< tt)), demand1.report-place-6 (bytes "a; none") lent (lit≤ tt) refl (lit< tt))
 
 report-refusal-instance :
-    reports (bytes "a") one ≡ record { answer = record { number = 9; place = 0; written = 0; ignored = 0 }; left = one }
+    reports (bytes "a") lent ≡ record { answer = record { number = 9; place = 0; written = 0; ignored = 0 }; left = lent }
 unfolding body-opened.opened
-report-refusal-instance = demand1.report-refusal (bytes "a") one (λ e. omega (arith, e)) (λ e. omega (arith, e))
+report-refusal-instance = demand1.report-refusal (bytes "a") lent (λ e. omega (arith, e)) (λ e. omega (arith, e))
 
-report-place-instance : reports (bytes "a") one .answer .place ≡ 0
+report-place-instance : reports (bytes "a") lent .answer .place ≡ 0
 unfolding body-opened.opened
-report-place-instance = demand1.report-place (bytes "a") one (λ e. omega (arith, e))
+report-place-instance = demand1.report-place (bytes "a") lent (λ e. omega (arith, e))
 
 report-8-instance :
     reports (bytes "a 02 ;;") (bytes "..........!") ≡ record { answer = record { number = 8; place = 0; written = 9; ignored = 0 }; left = bytes "id\ta\nv\t2\n.!" }
@@ -140,31 +140,31 @@ bare = bytes "Authentication-Results: Example.com\r\n"
 block-report-1-instance : (list old : List ℕ) → (blockReports Reported long list old .answer .number ≡ 1) × (blockReports Reported long list old .answer .place ≡ 0)
 block-report-1-instance list old = (demand1.block-report-1 Reported long list old .1 too-long, demand1.block-report-place-1 Reported long list old too-long)
 
-block-report-5-instance : (blockReports Reported sample badList one .answer .number ≡ 5) × (blockReports Reported sample badList one .answer .place ≡ 2)
+block-report-5-instance : (blockReports Reported sample badList lent .answer .number ≡ 5) × (blockReports Reported sample badList lent .answer .place ≡ 2)
 unfolding block-report-opened.opened
 block-report-5-instance =
-    (demand1.block-report-5 Reported sample badList one .1 (lit≤ tt, refl), demand1.block-report-place-5 Reported sample badList one (lit≤ tt) refl)
+    (demand1.block-report-5 Reported sample badList lent .1 (lit≤ tt, refl), demand1.block-report-place-5 Reported sample badList lent (lit≤ tt) refl)
 
-block-report-2-instance : (blockReports Identified unfinished list one .answer .number ≡ 2) × (blockReports Identified unfinished list one .answer .place ≡ 4)
+block-report-2-instance : (blockReports Identified unfinished list lent .answer .number ≡ 2) × (blockReports Identified unfinished list lent .answer .place ≡ 4)
 unfolding block-report-opened.opened
 block-report-2-instance = (
-  demand1.block-report-2-to-4 Identified unfinished list one 2 (lit≤ tt) (lit≤ tt) .1 (lit≤ tt, (refl, refl)),
-  demand1.block-report-place-2-to-4 Identified unfinished list one 2 (lit≤ tt) (lit≤ tt) (lit≤ tt) refl refl,
+  demand1.block-report-2-to-4 Identified unfinished list lent 2 (lit≤ tt) (lit≤ tt) .1 (lit≤ tt, (refl, refl)),
+  demand1.block-report-place-2-to-4 Identified unfinished list lent 2 (lit≤ tt) (lit≤ tt) (lit≤ tt) refl refl,
 )
 
 -- with the one detail it needs 16 bytes, with the other 31
 block-report-6-instance :
-    ((blockReports Reported bare list one .answer .number ≡ 6) × (blockReports Reported bare list one .answer .place ≡ 16))
-    × ((blockReports Identified bare list one .answer .number ≡ 6) × (blockReports Identified bare list one .answer .place ≡ 31))
+    ((blockReports Reported bare list lent .answer .number ≡ 6) × (blockReports Reported bare list lent .answer .place ≡ 16))
+    × ((blockReports Identified bare list lent .answer .number ≡ 6) × (blockReports Identified bare list lent .answer .place ≡ 31))
 unfolding block-report-opened.opened
 block-report-6-instance = (
   (
-    demand1.block-report-6 Reported bare list one .1 ((lit≤ tt, (refl, refl)), lit< tt),
-    demand1.block-report-place-6 Reported bare list one (lit≤ tt, (refl, refl)) (lit< tt),
+    demand1.block-report-6 Reported bare list lent .1 ((lit≤ tt, (refl, refl)), lit< tt),
+    demand1.block-report-place-6 Reported bare list lent (lit≤ tt, (refl, refl)) (lit< tt),
   ),
   (
-    demand1.block-report-6 Identified bare list one .1 ((lit≤ tt, (refl, refl)), lit< tt),
-    demand1.block-report-place-6 Identified bare list one (lit≤ tt, (refl, refl)) (lit< tt),
+    demand1.block-report-6 Identified bare list lent .1 ((lit≤ tt, (refl, refl)), lit< tt),
+    demand1.block-report-place-6 Identified bare list lent (lit≤ tt, (refl, refl)) (lit< tt),
   ),
 )
 
@@ -180,9 +180,9 @@ block-report-done-instance = (
 )
 
 block-report-refusal-instance :
-    blockReports Identified bare badList one ≡ record { answer = record { number = 5; place = 2; written = 0 }; left = one }
+    blockReports Identified bare badList lent ≡ record { answer = record { number = 5; place = 2; written = 0 }; left = lent }
 unfolding block-report-opened.opened
-block-report-refusal-instance = demand1.block-report-refusal Identified bare badList one (λ e. omega (arith, e))
+block-report-refusal-instance = demand1.block-report-refusal Identified bare badList lent (λ e. omega (arith, e))
 
 -- ==== whose an identifier is
 
@@ -212,7 +212,7 @@ whose-refusal-instance = demand1.whose-refusal badList (bytes "a;") (λ e. omega
 -- a line that no report begins with, and a report that stops too early
 write-11-instance : Placed (bytes "x\n") 1 × Placed (bytes "id\ta\n") 2
 unfolding write-opened.opened
-write-11-instance = (demand1.write-place-11 (bytes "x\n") one refl, demand1.write-place-11 (bytes "id\ta\n") one refl)
+write-11-instance = (demand1.write-place-11 (bytes "x\n") lent refl, demand1.write-place-11 (bytes "id\ta\n") lent refl)
 
 -- the identifier of 65,536 letters
 write-1-instance : (old : List ℕ) → (writes (lengthy 65536) old .answer .number ≡ 1) × (writes (lengthy 65536) old .answer .place ≡ 0)
@@ -221,24 +221,32 @@ write-1-instance old = (
   demand1.write-place-1 (lengthy 65536) old (lengthy-reported 65536, lengthy-body 65536),
 )
 
-write-6-instance : writes (bytes "id\ta\nnone\n") one .answer .place ≡ 8
+write-6-instance : writes (bytes "id\ta\nnone\n") lent .answer .place ≡ 8
 unfolding write-opened.opened
-write-6-instance = demand1.write-place-6 (bytes "id\ta\nnone\n") one (demand1.write-6 (bytes "id\ta\nnone\n") one .0 refl)
+write-6-instance = demand1.write-place-6 (bytes "id\ta\nnone\n") lent (demand1.write-6 (bytes "id\ta\nnone\n") lent .0 refl)
 
 write-done-instance :
     writes (bytes "id\ta\nnone\n") (bytes "........!") ≡ record { answer = record { number = 0; place = 0; written = 8 }; left = bytes " a; none!" }
 unfolding write-opened.opened
 write-done-instance = demand1.write-done (bytes "id\ta\nnone\n") (bytes "........!") (demand1.write-0 (bytes "id\ta\nnone\n") (bytes "........!") .0 refl)
 
-write-refusal-instance : (writes (bytes "x\n") one .answer .written ≡ 0) × (writes (bytes "x\n") one .left ≡ one)
+write-refusal-instance : (writes (bytes "x\n") lent .answer .written ≡ 0) × (writes (bytes "x\n") lent .left ≡ lent)
 unfolding write-opened.opened
-write-refusal-instance = demand1.write-refusal (bytes "x\n") one (λ e. omega (arith, e))
+write-refusal-instance = demand1.write-refusal (bytes "x\n") lent (λ e. omega (arith, e))
 
 -- what was written there, read back by the other call
 round-trip-instance :
     reports (bytes " a; none") (bytes "..........!") ≡ record { answer = record { number = 0; place = 0; written = 10; ignored = 0 }; left = bytes "id\ta\nnone\n!" }
 unfolding write-opened.opened
 round-trip-instance = ticket1.calls-round-trip (bytes "id\ta\nnone\n") (bytes "........!") (bytes "..........!") refl (lit≤ tt)
+
+-- the same of every body that would be written, and there is one place for lines that are refused
+body-reports-instance : Reports (bytes " a; none") (bytes "id\ta\nnone\n")
+unfolding write-opened.opened
+body-reports-instance = ticket1.body-reports (bytes "id\ta\nnone\n") (demand1.write-0 (bytes "id\ta\nnone\n") (bytes "........!") .0 refl .0)
+
+placed-once-instance : (p : ℕ) → Placed (bytes "x\n") p → p ≡ 1
+placed-once-instance p q = ticket1.placed-once (bytes "x\n") p 1 q (write-11-instance .0)
 
 -- ==== a chain
 
@@ -273,7 +281,7 @@ judge-refusal-instance = demand1.judge-refusal unfinished (9 ∷ []) (λ e. omeg
 step-1-instance : (place : ℕ) → steps long place ≡ Last 1 0
 step-1-instance place = demand1.step-1 long place .1 too-long
 
--- a sound block of a field of seven bytes and one of five, from the front and behind the start of the last; one that is cut
+-- a sound block of a field of seven bytes and one of five, from behind the start of the last; one that is cut
 step-0-instance : (steps (bytes "A : b\r\nBc:\r\n") 8 ≡ Last 0 0) × (steps (bytes "A : b\r\nBc:") 1 ≡ Last 2 10)
 unfolding step-opened.opened
 step-0-instance = (

@@ -28,9 +28,9 @@ use Rattle.strip_laws.proofs.ByFields as strip-fields
 use Rattle.strip_laws.proofs.Numbers as strip-ways
 use Rattle.arc_rules.specs.Chain.{outcome, built, failed, validFor, passes, oldestPass}
 use Rattle.arc_rules.specs.declared.Judged.{Judged}
-use Rattle.arc_rules.specs.Terms as judge-terms
+use Rattle.arc_rules.specs.Terms.{Known as KnownFields}
 use Rattle.arc_rules.specs.Accepted.{kindOf, isArc, Accepted}
-use Rattle.arc_rules.specs.Reasons.{firstUnread, firstRepeating, emptyPlace, lastFails, otherValue}
+use Rattle.arc_rules.specs.Reasons.{firstUnread, firstRepeating, highestInstance, emptyPlace, lastFails, otherValue}
 use Rattle.arc_rules.proofs.Unfolding as arc-opened
 use Rattle.arc_rules.proofs.ReasonExamples as reason-opened
 use Rattle.arc_laws.proofs.Numbers as judge-ways
@@ -159,7 +159,7 @@ repeated-example block room = strip-repeated block (bytes "a\nb\n") (bytes "a\nb
 
 -- An ARC structure is accepted exactly when every ARC field reads, and instances 1 to N, N from 1 to 50, each have one field of each kind and the chain
 -- values RFC 8617 prescribes: for every block within the limit whose walk comes to its end, and N verdicts from 0 to 3
-pub judge-built : (block verdicts : List ℕ) (n : ℕ) → judge-terms.Known block → validFor n verdicts ≡ true
+pub judge-built : (block verdicts : List ℕ) (n : ℕ) → KnownFields block → validFor n verdicts ≡ true
     → Exactly ((judges block verdicts .outcome ≡ 2) × (judges block verdicts .instances ≡ n)) (Accepted (fields block .items) n)
 judge-built = judge-laws.judge-built
 
@@ -173,7 +173,7 @@ pub built-exactly : (fs : List Field) (n : ℕ) → Exactly (outcome fs ≡ buil
 built-exactly = judge-laws.built-exactly
 
 -- built: the status is pass when all N seals and signature N are good, and then there is an oldest-pass; else it is fail
-pub judge-status : (block verdicts : List ℕ) (n : ℕ) → judge-terms.Known block → outcome (fields block .items) ≡ built n → validFor n verdicts ≡ true
+pub judge-status : (block verdicts : List ℕ) (n : ℕ) → KnownFields block → outcome (fields block .items) ≡ built n → validFor n verdicts ≡ true
     → judges block verdicts
     ≡ record {
       number = 0;
@@ -202,12 +202,12 @@ status-example =
 abbrev failedFor : ℕ → ℕ → Judged
 failedFor r f = record { number = 0; place = 0; outcome = 1; reason = r; field = f; instances = 0; status = 2; oldest = 0 }
 
-pub judge-failed : (block verdicts : List ℕ) (r f : ℕ) → judge-terms.Known block → outcome (fields block .items) ≡ failed r f
+pub judge-failed : (block verdicts : List ℕ) (r f : ℕ) → KnownFields block → outcome (fields block .items) ≡ failed r f
     → judges block verdicts ≡ failedFor r f
 judge-failed block verdicts r f k o = rw (judge-ways.when-fails block verdicts r f k o)
 
 -- Failed for the first reason that applies: each exactly where it applies (`Reasons.antt` of `arc_rules`) and none before it does
-module _ (block verdicts : List ℕ) (k : judge-terms.Known block) where
+module _ (block verdicts : List ℕ) (k : KnownFields block) where
   abbrev fs : List Field
   fs = fields block .items
 
@@ -250,7 +250,14 @@ module _ (block verdicts : List ℕ) (k : judge-terms.Known block) where
   pub judge-field-0 : 3 ≤ judges block verdicts .reason → judges block verdicts ≡ failedFor (judges block verdicts .reason) 0
   judge-field-0 h = let q = reason-laws.judge-others block verdicts k h in judge-failed block verdicts (judges block verdicts .reason) 0 k q
 
--- a block for each: a field that doesn't read; each kind repeated at its instance; no seal; a seal with fail, and with pass
+  -- Else built, with N
+  pub judge-else : (firstUnread fs ≡ 0) × ((firstRepeating fs ≡ 0) × ((emptyPlace fs ≡ false) × ((lastFails fs ≡ false) × (otherValue fs ≡ false))))
+      → 1 ≤ highestInstance fs → validFor (highestInstance fs) verdicts ≡ true
+      → (judges block verdicts .outcome ≡ 2) × (judges block verdicts .instances ≡ highestInstance fs)
+  judge-else h l v =
+      judge-built block verdicts (highestInstance fs) k v .1 (built-exactly fs (highestInstance fs) .0 (reason-laws.else-built fs h l))
+
+-- a block for each: a field that doesn't read; each kind repeated at its instance; no seal; a seal with fail, with pass, and with none
 abbrev set : List ℕ → List ℕ
 set cv =
     bytes "ARC-Authentication-Results: i=1;\r\nARC-Message-Signature: i=1;a=;b=;bh=;d=;h=;s=\r\n"
@@ -287,10 +294,14 @@ unfolding reason-opened.opened
 e-example =
     (judge-failed-e (set (bytes "pass")) [] (lit≤ tt, refl) .1 (refl, (refl, (refl, (refl, refl)))), judge-field-0 (set (bytes "pass")) [] (lit≤ tt, refl) (lit≤ tt))
 
+else-example : (judges (set (bytes "none")) (3 ∷ []) .outcome ≡ 2) × (judges (set (bytes "none")) (3 ∷ []) .instances ≡ 1)
+unfolding reason-opened.opened
+else-example = judge-else (set (bytes "none")) (3 ∷ []) (lit≤ tt, refl) (refl, (refl, (refl, (refl, refl)))) (lit≤ tt) refl
+
 -- ==== the judgement of a chain: none
 
 -- exactly where there are no such fields, whatever the verdicts
-pub judge-none : (block verdicts : List ℕ) → judge-terms.Known block
+pub judge-none : (block verdicts : List ℕ) → KnownFields block
     → Exactly (judges block verdicts ≡ record { number = 0; place = 0; outcome = 0; reason = 0; field = 0; instances = 0; status = 0; oldest = 0 })
     ((f : Field) → List·Memᴰ f (fields block .items) → isArc (kindOf f) ≡ false)
 judge-none block verdicts k =

@@ -60,20 +60,20 @@ pub four-places : (b : List ℕ) → WellFormed b → length (insertionPlaces b)
 four-places = demand3.four-places
 
 -- a field with two results, its eight places, and a newer result put at each
-abbrev field : List ℕ
-field = bytes " a (c); spf=pass smtp.mailfrom=x@y.z ; dkim=fail (d) "
+abbrev twoResults : List ℕ
+twoResults = bytes " a (c); spf=pass smtp.mailfrom=x@y.z ; dkim=fail (d) "
 
-abbrev newer : List ℕ
-newer = bytes ";dkim/2 = pass reason=\"a;b\" \r\n header.(x)d=e"
+abbrev newerResult : List ℕ
+newerResult = bytes ";dkim/2 = pass reason=\"a;b\" \r\n header.(x)d=e"
 
 result-example : (k : ℕ) → List·Memᴰ k (2 ∷ 6 ∷ 36 ∷ 37 ∷ 36 ∷ 37 ∷ 48 ∷ 53 ∷ []) → (old : List ℕ)
-    → OneMoreIgnored (reports (insertAt k newer field) old) (reports field old)
+    → OneMoreIgnored (reports (insertAt k newerResult twoResults) old) (reports twoResults old)
 unfolding body-opened.opened
-result-example k K = newer-result field newer _ refl refl demand3.two-not-one k K (rw (insertAt-length k newer field) (lit≤ tt))
+result-example k K = newer-result twoResults newerResult _ refl refl demand3.two-not-one k K (rw (insertAt-length k newerResult twoResults) (lit≤ tt))
 
-places-example : length (insertionPlaces field) ≡ 8
+places-example : length (insertionPlaces twoResults) ≡ 8
 unfolding body-opened.opened
-places-example = four-places field refl
+places-example = four-places twoResults refl
 
 -- the word none is well-formed, and has no place to put a result
 none-example : WellFormed (bytes "a; none") × (insertionPlaces (bytes "a; none") ≡ [])
