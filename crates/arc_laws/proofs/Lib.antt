@@ -2,6 +2,7 @@ pub mod Counting
 pub mod Storing
 pub mod Gathering
 pub mod FirstFields
+pub mod NamedFields
 pub mod Acceptance
 pub mod InstanceReasons
 pub mod ReasonsExactly

@@ -4,15 +4,16 @@ use Prim.Native.Nat.{ℕ, zero, suc, _-_, _≤_}
 use native.Mathlib.Omega.{arith}
 use mathlib.Core.Path.{_≡_, refl, sym, ap, _∙_}
 use mathlib.Core.Bool.{Bool, true, false, not}
-use mathlib.Core.List.{List}
+use mathlib.Core.List.{List, []}
 use lib.Dec.{eqb, lit≤}
 use lib.ListN.{getD, take}
 use Rattle.base_sequences.proofs.Booleans.{both}
 use Rattle.block_rules.specs.Fields.{Field, fields}
 use Rattle.arc_rules.specs.Chain.{Sets, noSets, gathered, Outcome, none, failed, built, anyEmpty, prescribed, completeOutcome, outcomeOf, outcome, Answer, judge}
-use Rattle.arc_rules.specs.Reasons.{firstUnread, firstRepeating, highestInstance, lacks, anyInstance, emptyPlace, lastFails, otherValue}
+use Rattle.arc_rules.specs.Reasons.{unread, repeats, firstWhere, firstUnread, firstRepeating, FirstAt, highestInstance, lacks, anyInstance, emptyPlace, lastFails, otherValue}
 use Rattle.arc_rules.specs.Terms.{Known}
 use Rattle.arc_laws.proofs.Gathering.{Told, sets-told}
+use Rattle.arc_laws.proofs.NamedFields.{first-at, at-first}
 use Rattle.arc_laws.proofs.FirstFields.{unread-told, repeated-told}
 use Rattle.arc_laws.proofs.Numbers.{reason-when, when-fails}
 use Rattle.arc_laws.proofs.InstanceReasons.{highest-told, empty-told, fail-told, value-told, no-instance}
@@ -116,6 +117,15 @@ module _ (fs : List Field) where
 
   first : First fs
   first = by-unread (firstUnread fs) refl
+
+-- ==== the field that is named
+
+named : (test : List Field → Field → Bool) (fs : List Field) (n : ℕ) → 1 ≤ firstWhere test [] fs → firstWhere test [] fs ≡ n → FirstAt test fs n
+named test fs zero h q = absurd (omega (arith, h, q))
+named test fs (suc n) h q = first-at test fs n q
+
+one-field : (n r : ℕ) {m : ℕ} → failed r n ≡ failed r m → n ≡ m
+one-field n r q = ap (λ (o : Outcome). elim o [ none ↦ 0 | failed x y ↦ y | built x ↦ 0 ]) q
 
 -- ==== each reason exactly where it applies and none before it does
 
@@ -261,6 +271,28 @@ module _ (fs : List Field) where
         | no u i p l v o ↦ absurd (both (otherValue fs) v (h .1 .1 .1 .1))
       ]
 
+  -- the field that (a) names, and that (b) names
+  pub unread-first : (n : ℕ) → (outcome fs ≡ failed 1 n → FirstAt (λ before f. unread f) fs n) × (FirstAt (λ before f. unread f) fs n → outcome fs ≡ failed 1 n)
+  unread-first n = (there, back)
+    where
+      there : outcome fs ≡ failed 1 n → FirstAt (λ before f. unread f) fs n
+      there q = named (λ before f. unread f) fs n (unread-when n q) (one-field _ 1 (sym (when-unread (unread-when n q)) ∙ q))
+
+      back : FirstAt (λ before f. unread f) fs n → outcome fs ≡ failed 1 n
+      back w = let e = at-first (λ before f. unread f) fs n w in when-unread (omega (arith, e, w .counted)) ∙ ap (failed 1) e
+
+  pub repeated-first : (n : ℕ) → (outcome fs ≡ failed 2 n → (firstUnread fs ≡ 0) × FirstAt repeats fs n)
+      × ((firstUnread fs ≡ 0) × FirstAt repeats fs n → outcome fs ≡ failed 2 n)
+  repeated-first n = (there, back)
+    where
+      there : outcome fs ≡ failed 2 n → (firstUnread fs ≡ 0) × FirstAt repeats fs n
+      there q =
+          let w = repeated-when n q in
+          (w .0, named repeats fs n (w .1) (one-field _ 2 (sym (when-repeated w) ∙ q)))
+
+      back : (firstUnread fs ≡ 0) × FirstAt repeats fs n → outcome fs ≡ failed 2 n
+      back w = let e = at-first repeats fs n (w .1) in when-repeated (w .0, omega (arith, e, w .1 .counted)) ∙ ap (failed 2) e
+
   -- without a reason
   when-unfailed : (firstUnread fs ≡ 0) × ((firstRepeating fs ≡ 0) × ((emptyPlace fs ≡ false) × ((lastFails fs ≡ false) × (otherValue fs ≡ false))))
       → outcome fs ≡ unfailed (highestInstance fs)
@@ -316,6 +348,11 @@ module _ (block vs : List ℕ) (k : Known block) where
   judge-others h =
       let w = reason-when block vs (judge block vs .reason) (omega arith) refl in
       others-when given (judge block vs .reason) (w .0) h (w .1)
+
+  pub judge-names : (r f : ℕ) → 1 ≤ r → judge block vs .reason ≡ r → judge block vs .field ≡ f → outcome given ≡ failed r f
+  judge-names r f h p q =
+      let w = reason-when block vs r h p in
+      w .1 ∙ ap (failed r) (sym (ap (λ (x : Answer). x .field) (when-fails block vs r (w .0) k (w .1))) ∙ q)
 
   reasoned : (r f : ℕ) → outcome given ≡ failed r f → judge block vs .reason ≡ r
   reasoned r f o = ap (λ (x : Answer). x .reason) (when-fails block vs r f k o)

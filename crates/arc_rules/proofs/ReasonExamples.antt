@@ -1,15 +1,18 @@
 -- Reasons (a) to (e) of a failed chain, each by itself, at worked examples: fields for which it applies, and their neighbours. Then the outcome of such
 -- fields, which is that of the first reason that applies.
-use Prim.Native.Nat.{ℕ}
-use mathlib.Core.Path.{_≡_, refl}
+use Prim.Native.Nat.{ℕ, suc}
+use native.Mathlib.Omega.{arith}
+use mathlib.Core.Path.{_≡_, refl, sym, ap, _∙_}
 use mathlib.Core.Bool.{Bool, true, false, _&&_}
 use mathlib.Core.List.{List, [], _∷_, _++_, map}
 use lib.Dec.{eqb}
+use lib.ListN.{length, length-append}
+use Rattle.base_sequences.proofs.Booleans.{no-true}
 use Rattle.base_readers.specs.Texts.{bytes}
 use Rattle.block_rules.specs.Fields.{Field}
 use Rattle.arc_rules.specs.Chain.{none, failed, built, outcome}
 use Rattle.arc_rules.specs.Accepted.{reads, standsAt}
-use Rattle.arc_rules.specs.Reasons.{unread, repeats, firstWhere, firstUnread, firstRepeating, instanceOf, highestInstance, lacks, anyInstance, emptyPlace, sealHas, anySeal, lastFails, otherValue}
+use Rattle.arc_rules.specs.Reasons.{unread, repeats, firstWhere, firstUnread, firstRepeating, FirstAt, instanceOf, highestInstance, lacks, anyInstance, emptyPlace, sealHas, anySeal, lastFails, otherValue}
 use Rattle.arc_rules.proofs.Unfolding as chain
 use Rattle.arc_rules.proofs.AcceptedExamples.{field, results, signature, seal, one}
 
@@ -40,6 +43,11 @@ from = field (bytes "From") (bytes "i=9;")
 abbrev set : List ℕ → List ℕ → List Field
 set i cv = r i ∷ m i ∷ s i cv ∷ []
 
+-- the first of some
+abbrev front : List Field → Field
+front [] = from
+front (f ∷ fs) = f
+
 -- ==== (a) an unreadable field
 
 -- an ARC field that doesn't read, and no other
@@ -51,6 +59,25 @@ unreads = refl
 first-unreads : map firstUnread ([] ∷ one ∷ (bad ∷ one) ∷ (from ∷ bad ∷ one) ∷ (one ++ (from ∷ bad ∷ bad ∷ [])) ∷ []) ≡ 0 ∷ 0 ∷ 1 ∷ 2 ∷ 5 ∷ []
 unfolding opened
 first-unreads = refl
+
+-- the same, said of the field and those before and behind it
+first-at : FirstAt (λ before f. unread f) (from ∷ bad ∷ bad ∷ []) 2
+unfolding opened
+first-at = record { before = from ∷ []; named = bad; after = bad ∷ []; split = refl; counted = refl; holds = refl; first = passed }
+  where
+    passed : (xs ys : List Field) (f : Field) → from ∷ [] ≡ xs ++ (f ∷ ys) → unread f ≡ false
+    passed [] ys f q = let e : from ≡ f = ap front q in ap unread (sym e)
+    passed (x ∷ xs) ys f q = absurd (omega (arith, ap length q, length-append xs (f ∷ ys)))
+
+-- neither a later one nor one that reads
+not-second : FirstAt (λ before f. unread f) (bad ∷ bad ∷ []) 2 → ⊥
+unfolding opened
+not-second w = go (w .before) (w .named) (w .after) (w .split) (w .counted) (w .first)
+  where
+    go : (before : List Field) (f : Field) (after : List Field) → bad ∷ bad ∷ [] ≡ before ++ (f ∷ after) → 2 ≡ suc (length before)
+        → ((xs ys : List Field) (g : Field) → before ≡ xs ++ (g ∷ ys) → unread g ≡ false) → ⊥
+    go [] f after e c h = omega (arith, c)
+    go (b ∷ bs) f after e c h = no-true (sym (h [] bs b refl) ∙ ap unread (sym (ap front e)))
 
 -- ==== (b) the first repeated kind, in block order, at one instance
 

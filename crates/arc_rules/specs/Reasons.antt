@@ -1,6 +1,7 @@
 -- Document 01, "The chain": reasons (a) to (e) of a failed chain, each said by itself, of the fields and not of the table of places. A chain fails for
 -- the first of them that applies.
 use Prim.Native.Nat.{ℕ, zero, suc}
+use mathlib.Core.Path.{_≡_}
 use mathlib.Core.Bool.{Bool, true, false, cond, not, _&&_, _||_}
 use mathlib.Core.List.{List, [], _∷_, _++_}
 use lib.Dec.{eqb, leb, ltb}
@@ -33,6 +34,16 @@ firstUnread fs = firstWhere (λ before f. unread f) [] fs
 -- (b)
 abbrev pub firstRepeating : List Field → ℕ
 firstRepeating fs = firstWhere repeats [] fs
+
+-- the same without a recursion: the field with this number is one of which a test holds, given the fields before it, and of no field before it does
+pub record FirstAt (test : List Field → Field → Bool) (fs : List Field) (number : ℕ) : Type 0 where
+  pub before : List Field
+  pub named : Field
+  pub after : List Field
+  pub split : fs ≡ before ++ (named ∷ after)
+  pub counted : number ≡ suc (length before)
+  pub holds : test before named ≡ true
+  pub first : (xs ys : List Field) (f : Field) → before ≡ xs ++ (f ∷ ys) → test xs f ≡ false
 
 -- ==== (c) with N the highest instance, an empty place in 1 to N
 

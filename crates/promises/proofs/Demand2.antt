@@ -30,7 +30,7 @@ use Rattle.arc_rules.specs.Chain.{outcome, built, failed, validFor, passes, old
 use Rattle.arc_rules.specs.declared.Judged.{Judged}
 use Rattle.arc_rules.specs.Terms.{Known as KnownFields}
 use Rattle.arc_rules.specs.Accepted.{kindOf, isArc, Accepted}
-use Rattle.arc_rules.specs.Reasons.{firstUnread, firstRepeating, highestInstance, emptyPlace, lastFails, otherValue}
+use Rattle.arc_rules.specs.Reasons.{unread, repeats, firstUnread, firstRepeating, FirstAt, highestInstance, emptyPlace, lastFails, otherValue}
 use Rattle.arc_rules.proofs.Unfolding as arc-opened
 use Rattle.arc_rules.proofs.ReasonExamples as reason-opened
 use Rattle.arc_laws.proofs.Numbers as judge-ways
@@ -202,6 +202,7 @@ status-example =
 abbrev failedFor : ℕ → ℕ → Judged
 failedFor r f = record { number = 0; place = 0; outcome = 1; reason = r; field = f; instances = 0; status = 2; oldest = 0 }
 
+-- whatever the reason is, the whole answer
 pub judge-failed : (block verdicts : List ℕ) (r f : ℕ) → KnownFields block → outcome (fields block .items) ≡ failed r f
     → judges block verdicts ≡ failedFor r f
 judge-failed block verdicts r f k o = rw (judge-ways.when-fails block verdicts r f k o)
@@ -212,8 +213,7 @@ module _ (block verdicts : List ℕ) (k : KnownFields block) where
   fs = fields block .items
 
   -- (a) an unreadable field
-  pub judge-failed-a : Exactly (judges block verdicts .reason ≡ 1)
-      (1 ≤ firstUnread fs)
+  pub judge-failed-a : Exactly (judges block verdicts .reason ≡ 1) (1 ≤ firstUnread fs)
   judge-failed-a = reason-laws.judge-unread block verdicts k
 
   -- (b) the first repeated kind, in block order, at one instance
@@ -250,6 +250,20 @@ module _ (block verdicts : List ℕ) (k : KnownFields block) where
   pub judge-field-0 : 3 ≤ judges block verdicts .reason → judges block verdicts ≡ failedFor (judges block verdicts .reason) 0
   judge-field-0 h = let q = reason-laws.judge-others block verdicts k h in judge-failed block verdicts (judges block verdicts .reason) 0 k q
 
+  -- the same, said of that field and those before it: field n is the first ARC field that doesn't read; all read, and it is the first whose kind one before
+  -- it has at the same instance
+  pub judge-first-a : (n : ℕ) → Exactly (judges block verdicts ≡ failedFor 1 n) (FirstAt (λ before f. unread f) fs n)
+  judge-first-a n = (
+    (λ e. reason-laws.unread-first fs n .0 (reason-laws.judge-names block verdicts k 1 n (lit≤ tt) (ap (λ (x : Judged). x .reason) e) (ap (λ (x : Judged). x .field) e))),
+    λ w. judge-failed block verdicts 1 n k (reason-laws.unread-first fs n .1 w),
+  )
+
+  pub judge-first-b : (n : ℕ) → Exactly (judges block verdicts ≡ failedFor 2 n) ((firstUnread fs ≡ 0) × FirstAt repeats fs n)
+  judge-first-b n = (
+    (λ e. reason-laws.repeated-first fs n .0 (reason-laws.judge-names block verdicts k 2 n (lit≤ tt) (ap (λ (x : Judged). x .reason) e) (ap (λ (x : Judged). x .field) e))),
+    λ w. judge-failed block verdicts 2 n k (reason-laws.repeated-first fs n .1 w),
+  )
+
   -- Else built, with N
   pub judge-else : (firstUnread fs ≡ 0) × ((firstRepeating fs ≡ 0) × ((emptyPlace fs ≡ false) × ((lastFails fs ≡ false) × (otherValue fs ≡ false))))
       → 1 ≤ highestInstance fs → validFor (highestInstance fs) verdicts ≡ true
@@ -276,6 +290,10 @@ repeated = set (bytes "none") ++ (bytes "A:\r\n" ++ set (bytes "none"))
 b-example : judges repeated [] ≡ failedFor 2 5
 unfolding reason-opened.opened
 b-example = judge-field-b repeated [] (lit≤ tt, refl) (judge-failed-b repeated [] (lit≤ tt, refl) .1 (refl, lit≤ tt))
+
+first-example : FirstAt (λ before f. unread f) (fields unreadable .items) 2 × FirstAt repeats (fields repeated .items) 5
+unfolding reason-opened.opened
+first-example = (judge-first-a unreadable [] (lit≤ tt, refl) 2 .0 a-example, judge-first-b repeated [] (lit≤ tt, refl) 5 .0 b-example .1)
 
 abbrev unsealed : List ℕ
 unsealed = bytes "ARC-Authentication-Results: i=1;\r\nARC-Message-Signature: i=1;a=;b=;bh=;d=;h=;s=\r\n"
