@@ -1,13 +1,16 @@
--- Computed samples: the strings of RFC 3492, section 7.1, a trace of its section 7.2, and the edges of 02, ticket [2].
-use Prim.Native.Nat.{_*_}
+-- Computed samples: the strings of RFC 3492, section 7.1, a trace of its section 7.2, the edges of its sections 5 and 6 and of RFC 3629, section 3,
+-- which no sample string reaches, and those of 02, ticket [2].
+use Prim.Native.Nat.{ℕ, _*_}
 use mathlib.Core.Path.{_≡_, refl}
-use mathlib.Core.Bool.{true, false}
-use mathlib.Core.List.{[], _∷_, _++_}
+use mathlib.Core.Bool.{true, false, not}
+use mathlib.Core.List.{[], _∷_, _++_, map}
 use mathlib.Core.Option.{none, some}
 use Rattle.base_readers.specs.Texts.{bytes}
-use Rattle.base_readers.proofs.Cases.{case, Says}
-use Rattle.punycode_rules.specs.Punycode.{adapt, punycode}
-use Rattle.punycode_rules.specs.Labels.{labels, decoded, spelling, anyPrefixed, spellingLimit, doubleHyphen}
+use Rattle.base_readers.proofs.Cases.{case, Says, copies}
+use Rattle.lexis_rules.proofs.ClassExamples.{range, members}
+use Rattle.punycode_rules.specs.Punycode.{digitOf, scaled, adapt, basic, punycode}
+use Rattle.punycode_rules.specs.Unicode.{utf8}
+use Rattle.punycode_rules.specs.Labels.{prefixed, inLabel, labels, decoded, spelling, anyPrefixed, spellingLimit, doubleHyphen}
 use Rattle.punycode_rules.proofs.Unfolding.{opened}
 
 -- ==== RFC 3492, section 7.1: the sample strings
@@ -114,6 +117,43 @@ biases :
 unfolding opened
 biases = refl
 
+-- ==== RFC 3492, sections 5 and 6: the edges
+
+-- section 5: the digit of each byte: 0 to 9 are 26 to 35, A to Z and a to z are 0 to 25, and 36 says that it is none: "/", ":", "@", "[", "`" and "{", which
+-- stand next to these, are none
+digits : map digitOf (range 0 255) ≡ copies 48 36 ++ range 26 35 ++ copies 7 36 ++ range 0 25 ++ copies 6 36 ++ range 0 25 ++ copies 133 36
+unfolding opened
+digits = refl
+
+-- section 5: the basic code points: 7F hex is the last
+basics : members (λ x. basic (x ∷ [])) ≡ range 0 0x7F
+unfolding opened
+basics = refl
+
+-- section 6.1: while delta > 455: 455 itself is not scaled down, 456 is; so is 468, which (base * tmax) div 2 would leave
+scales : map (λ (delta : ℕ). scaled delta 0 delta) (455 ∷ 456 ∷ 468 ∷ []) ≡ 33 ∷ 45 ∷ 45 ∷ []
+unfolding opened
+scales = refl
+
+-- section 6.2: the first time is where oldi is 0: not the second one here, though n is still its initial 80 hex then
+first-time : punycode (bytes "a434vda") ≡ some (0x80 ∷ 0x3000 ∷ 0x3001 ∷ [])
+unfolding opened
+first-time = refl
+
+-- ==== RFC 3629, section 3: the last number of each form, and the first of the next
+
+forms :
+    map utf8 (0x7F ∷ 0x80 ∷ 0x7FF ∷ 0x800 ∷ 0xFFFF ∷ 0x10000 ∷ [])
+    ≡ (0x7F ∷ [])
+    ∷ (0xC2 ∷ 0x80 ∷ [])
+    ∷ (0xDF ∷ 0xBF ∷ [])
+    ∷ (0xE0 ∷ 0xA0 ∷ 0x80 ∷ [])
+    ∷ (0xEF ∷ 0xBF ∷ 0xBF ∷ [])
+    ∷ (0xF0 ∷ 0x90 ∷ 0x80 ∷ 0x80 ∷ [])
+    ∷ []
+unfolding opened
+forms = refl
+
 -- ==== 02, ticket [2]: the edges
 
 -- the edges: nothing behind the prefix; a hyphen that is first is no delimiter; a number cut short; no digit; a byte from 128 up
@@ -181,6 +221,33 @@ hyphens = refl
 prefixes : Says (λ t. anyPrefixed (labels t)) (case (bytes "a.xN--b") true ∷ case (bytes "a.xn-b") false ∷ case (bytes "a.mxn--b") false ∷ [])
 unfolding opened
 prefixes = refl
+
+-- the prefix at each of its four bytes: either case, and no byte next to one of these
+prefix-bytes :
+    Says prefixed
+    (case (bytes "xn--") true
+    ∷ case (bytes "XN--") true
+    ∷ case (bytes "wn--") false
+    ∷ case (bytes "yn--") false
+    ∷ case (bytes "Wn--") false
+    ∷ case (bytes "Yn--") false
+    ∷ case (bytes "xm--") false
+    ∷ case (bytes "xo--") false
+    ∷ case (bytes "xM--") false
+    ∷ case (bytes "xO--") false
+    ∷ case (bytes "xn,-") false
+    ∷ case (bytes "xn.-") false
+    ∷ case (bytes "xn-,") false
+    ∷ case (bytes "xn-.") false
+    ∷ case (bytes "xn-") false
+    ∷ [])
+unfolding opened
+prefix-bytes = refl
+
+-- the one byte that is of no label
+label-bytes : members (λ x. not (inLabel x)) ≡ bytes "."
+unfolding inLabel
+label-bytes = refl
 
 -- an entry has 255 bytes at most, and none stands for more than four of its spelling
 limit : spellingLimit ≡ 255 * 4
