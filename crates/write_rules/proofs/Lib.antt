@@ -1,2 +1,3 @@
 pub mod Unfolding
 pub mod Samples
+pub mod PromiseExamples

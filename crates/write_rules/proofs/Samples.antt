@@ -1,13 +1,18 @@
 -- 02, ticket [1], "Write our own field", at worked examples: the computed answers are the stated ones. Every rule has an accepted neighbour
--- and a refused or differently written one. A body over the limit is too long to compute with: see Lengthy.
+-- and a refused or differently written one. A body of 65,536 bytes is too long to compute with: by its length alone.
 use Prim.Native.Nat.{ℕ}
 use mathlib.Core.Path.{_≡_, refl}
+use mathlib.Core.Bool.{true, false}
 use mathlib.Core.List.{List, [], _∷_, _++_, map}
+use lib.Dec.{leb}
 use lib.ListN.{length}
 use Rattle.base_readers.specs.Texts.{bytes}
 use Rattle.base_readers.proofs.Cases.{case, Says}
-use Rattle.write_rules.specs.Entries.{Entry}
+use Rattle.lexis_rules.proofs.ClassExamples.{range, members, figures}
+use Rattle.result_rules.specs.Results.{Mailbox}
+use Rattle.write_rules.specs.Entries.{Entry, identified, unstated, judged, reasoned, shown, lineOf, isHex, hexValue}
 use Rattle.write_rules.specs.Compose.{Answer, refusal, sized, answer, compose}
+use Rattle.write_rules.specs.Answers.{answerOf, leaves}
 use Rattle.write_rules.specs.Promise.{linesWithFeeds}
 use Rattle.write_rules.proofs.Unfolding.{opened}
 
@@ -99,6 +104,15 @@ percents :
 unfolding opened
 percents = refl
 
+-- upper-case hex digits: none of the bytes next to them. What each stands for
+hex-digits : members isHex ≡ figures ++ bytes "ABCDEF"
+unfolding opened
+hex-digits = refl
+
+hex-values : map hexValue (figures ++ bytes "ABCDEF") ≡ range 0 15
+unfolding opened
+hex-values = refl
+
 -- the text as the reason of a result
 abbrev reason : List ℕ → Answer
 reason t = written (bytes "id\ta\nm\tspf\tpass\nr\t" ++ (t ++ bytes "\n"))
@@ -189,6 +203,8 @@ methods :
     ∷ case (bytes "m\tSPF\tpass") (badLine 2)
     ∷ case (bytes "m\tspf\tPass") (badLine 2)
     ∷ case (bytes "m\tnone\tpass") (badLine 2)
+    ∷ case (bytes "m\tsmtp\tpass") (badLine 2)
+    ∷ case (bytes "m\tpass\tspf") (badLine 2)
     ∷ case (bytes "m\tspf/1\tpass") (badLine 2)
     ∷ case (bytes "m\tspf\t") (badLine 2)
     ∷ case (bytes "m\tspf") (badLine 2)
@@ -217,6 +233,20 @@ properties :
     ∷ [])
 unfolding opened
 properties = refl
+
+-- ==== the line of each entry, as a report has it
+
+entry-lines :
+    map lineOf
+    (identified (bytes "a b")
+    ∷ unstated
+    ∷ judged (bytes "spf") (bytes "pass")
+    ∷ reasoned (bytes "x y")
+    ∷ shown (record { ptype = bytes "smtp"; property = bytes "b"; value = record { kind = Mailbox; text = bytes "c@d.e" } })
+    ∷ [])
+    ≡ bytes "id\ta%20b\n" ∷ bytes "none\n" ∷ bytes "m\tspf\tpass\n" ∷ bytes "r\tx%20y\n" ∷ bytes "p\tsmtp\tb\tm\tc@d.e\n" ∷ []
+unfolding opened
+entry-lines = refl
 
 -- ==== which lines may follow one another, and the place
 
@@ -310,3 +340,27 @@ eleven-first room line es = refl
 one-first : (out : List ℕ) → length out ≡ 65537 → sized 0 out ≡ refusal 1 0
 unfolding sized
 one-first out e = rw (sized, e)
+
+-- one of the limit itself is written
+limit : (out : List ℕ) → length out ≡ 65536 → sized 65536 out ≡ body out
+unfolding sized
+limit out e = rw (sized, e) (room out e)
+  where
+    room : (out : List ℕ) → length out ≡ 65536 → _≡_ {A = Answer} (elim (leb (length out) 65536) [ true ↦ body out | false ↦ refusal 6 (length out) ]) (body out)
+    room out e = rw e
+
+-- ==== what the caller sees
+
+-- what the code answers has each of the three values at its name
+answers : answerOf (record { number = 1; place = 2; written = bytes "abc" }) ≡ record { number = 1; place = 2; written = 3 }
+answers = refl
+
+-- 01, Answer numbers: on every answer, bytes past those written stay unchanged
+left : map (leaves (body (bytes "ab"))) (bytes "1234567" ∷ bytes "12" ∷ []) ≡ bytes "ab34567" ∷ bytes "ab" ∷ []
+left = refl
+
+buffers :
+    map (λ (old : List ℕ). leaves (compose (bytes "id\ta\nnone\n") (length old)) old) (bytes "1234567" ∷ bytes "12345678" ∷ bytes "1234567890" ∷ [])
+    ≡ bytes "1234567" ∷ bytes " a; none" ∷ bytes " a; none90" ∷ []
+unfolding opened
+buffers = refl
