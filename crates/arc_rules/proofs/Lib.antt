@@ -3,3 +3,4 @@ pub mod FieldExamples
 pub mod Samples
 pub mod AcceptedExamples
 pub mod ReasonExamples
+pub mod TermExamples

@@ -1,8 +1,10 @@
 -- The report of a block at worked examples, computed: what each field adds, the numbers of the fields, the answers in order, and what is left in the
 -- lent buffer.
 use Prim.Native.Nat.{ℕ}
+use native.Mathlib.Omega.{arith}
 use mathlib.Core.Path.{_≡_, refl}
 use mathlib.Core.List.{List, [], _∷_, _++_, map}
+use lib.Dec.{lit≤}
 use lib.ListN.{length}
 use Rattle.base_readers.specs.Texts.{bytes}
 use Rattle.base_readers.proofs.Cases.{case, Says}
@@ -10,6 +12,7 @@ use Rattle.ownlist_rules.specs.Calls.{byList}
 use Rattle.blockreport_rules.specs.declared.Detail.the-variants.{Reported, Identified}
 use Rattle.blockreport_rules.specs.BlockReport.{Answer, blockReport}
 use Rattle.blockreport_rules.specs.Answers.{answerOf, leaves}
+use Rattle.blockreport_rules.specs.Terms.{blockText, Known}
 use Rattle.blockreport_rules.proofs.Unfolding.{opened}
 
 abbrev pub says : List ℕ → Answer
@@ -68,11 +71,12 @@ ignored :
 unfolding opened
 ignored = refl
 
--- each field named Authentication-Results, in any case, and no other name
+-- each field named Authentication-Results, in any case, and no other name: not one that is shorter or goes on
 names :
     Says reported
     (case (bytes "authentication-RESULTS : a; none\r\n") (says (bytes "field\t1\tother\t0\t0\nid\ta\nnone\n"))
     ∷ case (bytes "Authentication-Result: a; none\r\n") (says [])
+    ∷ case (bytes "Authentication-Results-Original: a; none\r\n") (says [])
     ∷ case (bytes "ARC-Authentication-Results: a; none\r\n") (says [])
     ∷ case (bytes "From: a; none\r\n") (says [])
     ∷ [])
@@ -214,3 +218,27 @@ buffers :
     ≡ bytes "1234567890123456789012" ∷ bytes "field\t1\tunreadable\t7\t0\n" ∷ bytes "field\t1\tunreadable\t7\t0\n45" ∷ []
 unfolding opened
 buffers = refl
+
+-- ==== what the theorems speak of
+
+-- what the fields of a block add, numbered from 1, by the entries of a list and with the detail that is asked for
+texts :
+    map (λ (list : List ℕ). blockText Identified (bytes "A:\r\nAuthentication-Results:a;none\r\nAuthentication-Results:b\r\n") list) (bytes "a\n" ∷ bytes "c\nb\n" ∷ [])
+    ≡ bytes "field\t2\town\t0\t0\nid\ta\nnone\nfield\t3\tother\t9\t0\nid\tb\n"
+    ∷ bytes "field\t2\tother\t0\t0\nid\ta\nnone\nfield\t3\town\t9\t0\nid\tb\n"
+    ∷ []
+unfolding opened
+texts = refl
+
+text-reported : blockText Reported (bytes "Authentication-Results:b\r\n") (bytes "a\n") ≡ bytes "field\t1\tother\t9\t0\n"
+unfolding opened
+text-reported = refl
+
+-- they are all known, or not (ownlist_rules has an example for each clause)
+known : Known (bytes "A:\r\n") (bytes "a\n")
+unfolding opened
+known = (lit≤ tt, (refl, refl))
+
+not-bad-list : Known (bytes "A:\r\n") (bytes "a\n\n") → ⊥
+unfolding opened
+not-bad-list k = let h : _≡_ {A = ℕ} 5 0 = k .1 .0 in omega arith

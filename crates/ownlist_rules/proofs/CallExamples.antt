@@ -1,13 +1,15 @@
 -- The order of refusals at worked examples, computed: each definition by itself, and all of them one after the other.
 use Prim.Native.Nat.{ℕ}
+use native.Mathlib.Omega.{arith}
 use mathlib.Core.Path.{_≡_, refl}
 use mathlib.Core.List.{List, [], _∷_, map}
+use lib.Dec.{lit≤}
 use lib.ListN.{length}
 use Rattle.base_readers.specs.Texts.{bytes}
 use Rattle.base_readers.proofs.Cases.{case, Says}
-use Rattle.block_rules.specs.Fields.{Field}
+use Rattle.block_rules.specs.Fields.{Field, fields}
 use Rattle.block_rules.proofs.Examples as block
-use Rattle.ownlist_rules.specs.Calls.{orRefusal, byList, byFields, orShort}
+use Rattle.ownlist_rules.specs.Calls.{orRefusal, byList, byFields, orShort, Known}
 use Rattle.ownlist_rules.proofs.Unfolding as lists
 
 unfoldable opened : Unit {0}
@@ -90,3 +92,27 @@ orders :
     ≡ refuses 5 2 ∷ refuses 2 1 ∷ refuses 3 0 ∷ refuses 6 8 ∷ (0 ∷ 2 ∷ 1 ∷ []) ∷ []
 unfolding opened
 orders = refl
+
+-- ==== what theorems speak of: none of 1 to 5 is given
+
+known : Known (bytes "A:\r\n") (bytes "a\n")
+unfolding opened
+known = (lit≤ tt, (refl, refl))
+
+-- the list is good
+not-bad-list : Known (bytes "A:\r\n") (bytes "a\n\n") → ⊥
+unfolding opened
+not-bad-list k = let h : _≡_ {A = ℕ} 5 0 = k .1 .0 in omega arith
+
+-- the walk over the block comes to its end
+not-bad-block : Known (bytes "A:\r\nB") (bytes "a\n") → ⊥
+unfolding opened
+not-bad-block k = let h : _≡_ {A = ℕ} 2 0 = k .1 .1 in omega arith
+
+-- the block is within the limit, which is in it
+not-long : (block list : List ℕ) → length block ≡ 65537 → Known block list → ⊥
+not-long block list e k = omega (arith, e, k .0)
+
+known-limit : (block : List ℕ) → length block ≡ 65536 → fields block .number ≡ 0 → Known block []
+unfolding opened
+known-limit block e f = (omega (arith, e), (refl, f))

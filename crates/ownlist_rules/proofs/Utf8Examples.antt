@@ -8,10 +8,15 @@ use Rattle.base_readers.specs.Texts.{bytes}
 use Rattle.base_readers.proofs.Cases.{copies}
 use Rattle.lexis_rules.proofs.ClassExamples.{range, members}
 use Rattle.ownlist_rules.specs.Utf8.{lead, tail, second, sequence}
-use Rattle.ownlist_rules.specs.OwnList.{entry}
+use Rattle.ownlist_rules.specs.OwnList.{visible, entry}
 use Rattle.ownlist_rules.proofs.Unfolding.{opened}
 
 -- ==== entries
+
+-- 01, Block and list: bytes 33 to 126, the colon among them
+visibles : members (λ b. eqb 1 (visible (b ∷ []))) ≡ range 33 126
+unfolding opened
+visibles = refl
 
 -- 01, Block and list: entries of bytes 33 to 126
 entryBytes : members (λ b. leb 1 (entry (b ∷ bytes "\n"))) ≡ range 33 126

@@ -13,6 +13,7 @@ use Rattle.result_rules.specs.Results.{Kind, Token, Quoted, Mailbox, AtDomain, 
 use Rattle.report_rules.specs.Body.{Reading, unreadable, malformed, newer, noResult, results}
 use Rattle.report_rules.specs.Report.{hexDigit, plain, escape, line, idLine, versionLine, noneLine, methodLine, reasonLine, letterOf, propertyLine, resultLines, lines, ignoredOf, Answer, fitted, answer, report}
 use Rattle.report_rules.specs.Answers.{answerOf, leaves}
+use Rattle.report_rules.specs.ByCase as byCase
 use Rattle.report_rules.proofs.Unfolding.{opened}
 
 -- ==== texts
@@ -160,6 +161,26 @@ answers = refl
 answers-without-room : map (answer 4) readings ≡ says 7 0 0 [] ∷ says 9 0 0 [] ∷ says 6 10 0 [] ∷ says 6 10 0 [] ∷ says 6 16 0 [] ∷ []
 unfolding opened
 answers-without-room = refl
+
+-- what is told of each case where there is room: number, bytes and count apart, and together
+case-numbers : map byCase.numberOf readings ≡ 7 ∷ 9 ∷ 8 ∷ 0 ∷ 0 ∷ []
+case-numbers = refl
+
+case-texts : map byCase.textOf readings ≡ [] ∷ [] ∷ bytes "id\ta\nv\t20\n" ∷ bytes "id\ta\nnone\n" ∷ bytes "id\ta\nm\tspf\tpass\n" ∷ []
+unfolding opened
+case-texts = refl
+
+case-counts : map byCase.countOf readings ≡ 0 ∷ 0 ∷ 0 ∷ 0 ∷ 1 ∷ []
+unfolding opened
+case-counts = refl
+
+cases : map byCase.told readings ≡ map (answer 100) readings
+unfolding opened
+cases = refl
+
+-- those that have a report are those that answer 6 without room
+case-reports : map byCase.hasReport readings ≡ false ∷ false ∷ true ∷ true ∷ true ∷ []
+case-reports = refl
 
 -- 1 before 7: every body of 65,537 bytes that starts with a ";". One of 65,536 is read
 long : (rest : List ℕ) (room : ℕ) → length rest ≡ 65536 → report (59 ∷ rest) room ≡ says 1 0 0 []

@@ -37,11 +37,12 @@ sample :
 unfolding opened
 sample = refl
 
--- 01, Stripping: each field named Authentication-Results, in any case, and no other name
+-- 01, Stripping: each field named Authentication-Results, in any case, and no other name: not one that is shorter or goes on
 names :
     Says stripped
     (case (bytes "authentication-RESULTS: example.com; none\r\n") (says 0 43 1 [])
     ∷ case (bytes "Authentication-Result: example.com\r\n") (says 36 0 0 (bytes "Authentication-Result: example.com\r\n"))
+    ∷ case (bytes "Authentication-Results-Original: example.com\r\n") (says 46 0 0 (bytes "Authentication-Results-Original: example.com\r\n"))
     ∷ case (bytes "ARC-Authentication-Results: example.com\r\n") (says 41 0 0 (bytes "ARC-Authentication-Results: example.com\r\n"))
     ∷ case (bytes "From: example.com\r\n") (says 19 0 0 (bytes "From: example.com\r\n"))
     ∷ case (bytes "From: /\r\n") (says 9 0 0 (bytes "From: /\r\n"))
