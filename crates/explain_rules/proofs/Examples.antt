@@ -1,8 +1,15 @@
 -- What is said of a report, at worked examples, by computing it.
+use Prim.Native.Nat.{ℕ}
 use mathlib.Core.Path.{_≡_, refl}
-use mathlib.Core.List.{[], _∷_}
+use mathlib.Core.Bool.{true, false}
+use mathlib.Core.List.{List, [], _∷_, map}
+use lib.ListN.{length}
 use Rattle.base_readers.specs.Texts.{bytes}
-use Rattle.explain_rules.specs.Explained.{kindOf, kindOfLine, whoseWords, answerWords, countWords, fieldWords, explained}
+use Rattle.base_readers.proofs.Cases.{case, Says}
+use Rattle.lexis_rules.proofs.ClassExamples.{range, members}
+use Rattle.explain_rules.specs.Explained.{kindOf, kindOfLine, whoseWords, answerWords, countWords, fieldWords, words, explained}
+use Rattle.explain_rules.specs.Promise.{plain, weight, weighed, most, added, isField, isHead, fieldLines, headLines}
+use Rattle.explain_rules.specs.declared.Line.{Line}
 use Rattle.explain_rules.specs.declared.Line.the-variants.{Field, Identifier, Version, NoResult, Method, Reason, Property, Other}
 use Rattle.explain_rules.proofs.Unfolding.{opened}
 
@@ -46,45 +53,41 @@ next-field = refl
 
 -- ==== whose word, which answer, how many
 
-whose-own : whoseWords (bytes "own") ≡ bytes "in our own name: strip removes it; what it says is only claimed"
+whose :
+    Says whoseWords
+    (case (bytes "own") (bytes "in our own name: strip removes it; what it says is only claimed")
+    ∷ case (bytes "other") (bytes "another's word: strip keeps it")
+    ∷ case (bytes "unreadable") (bytes "its identifier can't be read: strip removes it")
+    ∷ [])
 unfolding opened
-whose-own = refl
+whose = refl
 
-whose-other : whoseWords (bytes "other") ≡ bytes "another's word: strip keeps it"
+-- of a field that was read nothing is said here, and of one whose identifier can't be read (7) it has been said whose it is. No field has another number
+answers :
+    Says answerWords
+    (case (bytes "0") []
+    ∷ case (bytes "7") []
+    ∷ case (bytes "8") (bytes "; of a newer version: what it says is not read")
+    ∷ case (bytes "9") (bytes "; not well-formed: none of its results is shown")
+    ∷ case (bytes "1") []
+    ∷ case (bytes "6") []
+    ∷ [])
 unfolding opened
-whose-other = refl
+answers = refl
 
-whose-unreadable : whoseWords (bytes "unreadable") ≡ bytes "its identifier can't be read: strip removes it"
+unreadable : explained (bytes "field\t4\tunreadable\t7\t0\n") ≡ bytes "Field 4: its identifier can't be read: strip removes it\n"
 unfolding opened
-whose-unreadable = refl
+unreadable = refl
 
-answer-read : answerWords (bytes "0") ≡ []
+counts :
+    Says countWords
+    (case (bytes "0") []
+    ∷ case (bytes "1") (bytes "; 1 result of a newer version or not known: not shown")
+    ∷ case (bytes "2") (bytes "; 2 results of a newer version or not known: not shown")
+    ∷ case (bytes "10") (bytes "; 10 results of a newer version or not known: not shown")
+    ∷ [])
 unfolding opened
-answer-read = refl
-
-answer-newer : answerWords (bytes "8") ≡ bytes "; of a newer version: what it says is not read"
-unfolding opened
-answer-newer = refl
-
-answer-malformed : answerWords (bytes "9") ≡ bytes "; not well-formed: none of its results is shown"
-unfolding opened
-answer-malformed = refl
-
-count-none : countWords (bytes "0") ≡ []
-unfolding opened
-count-none = refl
-
-count-one : countWords (bytes "1") ≡ bytes "; 1 result of a newer version or not known: not shown"
-unfolding opened
-count-one = refl
-
-count-two : countWords (bytes "2") ≡ bytes "; 2 results of a newer version or not known: not shown"
-unfolding opened
-count-two = refl
-
-count-ten : countWords (bytes "10") ≡ bytes "; 10 results of a newer version or not known: not shown"
-unfolding opened
-count-ten = refl
+counts = refl
 
 -- ==== what a line is
 
@@ -133,3 +136,50 @@ count-shown = refl
 number-shown : fieldWords (bytes "1,%202\tother\t0\t0") ≡ bytes "Field \"1, 2\": another's word: strip keeps it"
 unfolding opened
 number-shown = refl
+
+-- ==== what the theorems speak of
+
+unfoldable measured : Unit {0}
+unfolding opened plain weight weighed most added isField isHead fieldLines headLines
+measured = tt
+
+-- the bytes that may reach a terminal: LF, and 32 to 126
+plains : members plain ≡ 10 ∷ range 32 126
+unfolding measured
+plains = refl
+
+-- at the ends of those that are shown with two bytes at most
+weights : map weight (31 ∷ 32 ∷ 126 ∷ 127 ∷ []) ≡ 4 ∷ 2 ∷ 2 ∷ 4 ∷ []
+unfolding measured
+weights = refl
+
+weighs : map weighed ([] ∷ bytes "ab" ∷ bytes "a\tb" ∷ []) ≡ 0 ∷ 4 ∷ 8 ∷ []
+unfolding measured
+weighs = refl
+
+-- so many bytes of our own are said in a line of each kind whose texts are all empty: no fewer would do
+mosts :
+    length (words Field (bytes "\town\t9\t")) ∷ map (λ (k : Line). length (words k [])) (Identifier ∷ Version ∷ NoResult ∷ Method ∷ Reason ∷ Property ∷ Other ∷ [])
+    ≡ map most (Field ∷ Identifier ∷ Version ∷ NoResult ∷ Method ∷ Reason ∷ Property ∷ Other ∷ [])
+unfolding measured
+mosts = refl
+
+-- the lines of a field, and those that stand in front of its results
+abbrev allLines : List Line
+allLines = Field ∷ Identifier ∷ Version ∷ NoResult ∷ Method ∷ Reason ∷ Property ∷ Other ∷ []
+
+of-fields : map isField allLines ≡ true ∷ false ∷ false ∷ false ∷ false ∷ false ∷ false ∷ false ∷ []
+unfolding measured
+of-fields = refl
+
+of-heads : map isHead allLines ≡ true ∷ true ∷ true ∷ true ∷ false ∷ false ∷ false ∷ false ∷ []
+unfolding measured
+of-heads = refl
+
+-- counted and summed up over two fields
+abbrev twoFields : List (List ℕ)
+twoFields = bytes "field\t1\town\t0\t0" ∷ bytes "id\ta" ∷ bytes "m\tspf\tpass" ∷ bytes "r\tb" ∷ bytes "field\t2\tother\t0\t0" ∷ bytes "x" ∷ []
+
+sums : fieldLines twoFields ∷ headLines twoFields ∷ added twoFields ∷ [] ≡ 2 ∷ 3 ∷ 402 ∷ []
+unfolding measured
+sums = refl
