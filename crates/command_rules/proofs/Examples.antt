@@ -1,10 +1,10 @@
 -- What is asked for, and the lines, at worked examples, by computing them.
 use Prim.Native.Nat.{ℕ, zero, suc}
 use mathlib.Core.Path.{_≡_, refl}
-use mathlib.Core.List.{List, [], _∷_, _++_}
+use mathlib.Core.List.{List, [], _∷_, _++_, map}
 use Rattle.base_readers.specs.Texts.{bytes, same}
 use Rattle.base_readers.specs.Readers.{run}
-use Rattle.base_readers.proofs.Cases.{copies}
+use Rattle.base_readers.proofs.Cases.{case, Says, copies}
 use Rattle.text_decimals_rules.specs.Decimals.{digits, decimal}
 use Rattle.command_rules.specs.declared.Asked.the-variants.{Strip, Report, Explain, Judge, Check, Write, Nothing}
 use Rattle.command_rules.specs.declared.Ending.the-variants.{Done, Usage, ListClosed, ListUnread, InputUnread, InputTooLong, OutputTooLong, Unwritten, VerdictsRefused, Refused, LinesRefused}
@@ -13,58 +13,35 @@ use Rattle.command_rules.specs.Messages.{feeds, feedless, fault, faultAt
 
 -- ==== words
 
-asks-strip : asked 3 (bytes "strip") ≡ Strip
+-- with a list or verdicts: in lower case alone, and the whole word
+with-list :
+    Says (asked 3)
+    (case (bytes "strip") Strip
+    ∷ case (bytes "report") Report
+    ∷ case (bytes "explain") Explain
+    ∷ case (bytes "judge") Judge
+    ∷ case (bytes "check") Check
+    ∷ case (bytes "write") Nothing
+    ∷ case (bytes "Strip") Nothing
+    ∷ case (bytes "reports") Nothing
+    ∷ case [] Nothing
+    ∷ [])
 unfolding asked same
-asks-strip = refl
+with-list = refl
 
-asks-report : asked 3 (bytes "report") ≡ Report
+-- without one
+without-list :
+    Says (asked 2)
+    (case (bytes "strip") Nothing ∷ case (bytes "check") Nothing ∷ case (bytes "write") Write ∷ case (bytes "Write") Nothing ∷ case (bytes "writes") Nothing ∷ case [] Nothing ∷ [])
 unfolding asked same
-asks-report = refl
+without-list = refl
 
-asks-explain : asked 3 (bytes "explain") ≡ Explain
+-- from no word at all to one too many
+counts :
+    map (λ (n : ℕ). asked n (bytes "strip") ∷ asked n (bytes "write") ∷ []) (0 ∷ 1 ∷ 2 ∷ 3 ∷ 4 ∷ [])
+    ≡ (Nothing ∷ Nothing ∷ []) ∷ (Nothing ∷ Nothing ∷ []) ∷ (Nothing ∷ Write ∷ []) ∷ (Strip ∷ Nothing ∷ []) ∷ (Nothing ∷ Nothing ∷ []) ∷ []
 unfolding asked same
-asks-explain = refl
-
-asks-judge : asked 3 (bytes "judge") ≡ Judge
-unfolding asked same
-asks-judge = refl
-
-asks-check : asked 3 (bytes "check") ≡ Check
-unfolding asked same
-asks-check = refl
-
-asks-write : asked 2 (bytes "write") ≡ Write
-unfolding asked same
-asks-write = refl
-
--- in lower case alone, the whole word, and with a list or without one
-asks-other : asked 3 (bytes "Strip") ≡ Nothing
-unfolding asked same
-asks-other = refl
-
-asks-more : asked 3 (bytes "reports") ≡ Nothing
-unfolding asked same
-asks-more = refl
-
-asks-none : asked 1 [] ≡ Nothing
-unfolding asked same
-asks-none = refl
-
-strip-unlisted : asked 2 (bytes "strip") ≡ Nothing
-unfolding asked same
-strip-unlisted = refl
-
-check-unlisted : asked 2 (bytes "check") ≡ Nothing
-unfolding asked same
-check-unlisted = refl
-
-write-listed : asked 3 (bytes "write") ≡ Nothing
-unfolding asked same
-write-listed = refl
-
-strip-more : asked 4 (bytes "strip") ≡ Nothing
-unfolding asked same
-strip-more = refl
+counts = refl
 
 -- ==== what is wrong with an entry
 
@@ -80,6 +57,11 @@ opened = 0
 sixty-fifth : faultAt (entries 64 ++ bytes "a\n") 128 ≡ bytes "it is the 65th"
 unfolding opened
 sixty-fifth = refl
+
+-- each LF in front of it counts, that of an empty entry at the front of the list too
+sixty-fifth-empty : faultAt (bytes "\n" ++ (entries 63 ++ bytes "a\n")) 127 ≡ bytes "it is the 65th"
+unfolding opened
+sixty-fifth-empty = refl
 
 -- it is, whatever else is wrong with it
 sixty-fifth-first : faultAt (entries 64 ++ copies 256 97) 128 ≡ bytes "it is the 65th"
@@ -114,6 +96,11 @@ empty-entry = refl
 bad-byte : faultAt (bytes "a b\n") 0 ≡ bytes "it has a byte that may not stand there"
 unfolding opened
 bad-byte = refl
+
+-- LF alone ends an entry: one that is a CR is not empty
+bad-return : faultAt (bytes "\r\n") 0 ≡ bytes "it has a byte that may not stand there"
+unfolding opened
+bad-return = refl
 
 -- ==== refusals of a block or a list
 

@@ -1,5 +1,5 @@
 -- 02, ticket [3]: what a digit run tells, at worked examples, computed.
-use mathlib.Core.Path.{refl}
+use mathlib.Core.Path.{_≡_, refl}
 use mathlib.Core.Bool.{true, false}
 use mathlib.Core.List.{[], _∷_}
 use Rattle.base_readers.specs.Texts.{bytes}
@@ -7,7 +7,7 @@ use Rattle.base_readers.specs.Parsers.{nothing, got, after, _>>=_, give, text}
 use Rattle.base_readers.proofs.Cases.{case, Says}
 use Rattle.lexis_rules.specs.declared.VersionNumber.the-variants.{Exact, Large}
 use Rattle.lexis_rules.specs.Words.{readNumber}
-use Rattle.lexis_rules.specs.Numbers.{numberOf, isOne}
+use Rattle.lexis_rules.specs.Numbers.{numberOf, one, isOne}
 use Rattle.lexis_rules.proofs.Examples as pieces
 
 unfoldable pub opened : Unit {0}
@@ -69,3 +69,8 @@ ones :
     ∷ [])
 unfolding opened
 ones = refl
+
+-- 01, Identifier and header version: absent means 1; so it does for a method
+absent : one ≡ numberOf (bytes "1")
+unfolding opened
+absent = refl

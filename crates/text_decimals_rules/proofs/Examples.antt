@@ -1,33 +1,23 @@
 -- Numbers in decimal digits at worked examples, by computing them.
+use Prim.Native.Nat.{ℕ}
 use mathlib.Core.Path.{_≡_, refl}
-use mathlib.Core.List.{[], _∷_}
+use mathlib.Core.List.{[], _∷_, map}
 use Rattle.base_readers.specs.Texts.{bytes}
+use Rattle.base_readers.proofs.Cases.{case, Says}
 use Rattle.text_decimals_rules.specs.Decimals.{digits, decimal, told}
 
-nought : decimal 0 ≡ bytes "0"
+-- 0, the last of one digit and the first of two, of two and of three; zeros behind and inside; the largest number that the command has
+decimals :
+    map decimal (0 ∷ 9 ∷ 10 ∷ 99 ∷ 100 ∷ 1000 ∷ 60506 ∷ 18446744073709551615 ∷ [])
+    ≡ bytes "0" ∷ bytes "9" ∷ bytes "10" ∷ bytes "99" ∷ bytes "100" ∷ bytes "1000" ∷ bytes "60506" ∷ bytes "18446744073709551615" ∷ []
 unfolding decimal digits
-nought = refl
+decimals = refl
 
-one-digit : decimal 9 ≡ bytes "9"
-unfolding decimal digits
-one-digit = refl
+-- where fewer digits may stand behind the first than there are, the first is what is left of the number
+digits-cut : map (λ (k : ℕ). digits k 123) (0 ∷ 1 ∷ 2 ∷ 3 ∷ []) ≡ (171 ∷ []) ∷ (60 ∷ bytes "3") ∷ bytes "123" ∷ bytes "123" ∷ []
+unfolding digits
+digits-cut = refl
 
-two-digits : decimal 10 ≡ bytes "10"
-unfolding decimal digits
-two-digits = refl
-
-noughts-inside : decimal 65536 ≡ bytes "65536"
-unfolding decimal digits
-noughts-inside = refl
-
-noughts-behind : decimal 1000 ≡ bytes "1000"
-unfolding decimal digits
-noughts-behind = refl
-
-largest : decimal 18446744073709551615 ≡ bytes "18446744073709551615"
-unfolding decimal digits
-largest = refl
-
-told-back : told 0 (bytes "18446744073709551615") ≡ 18446744073709551615
+told-back : Says (told 0) (case [] 0 ∷ case (bytes "0") 0 ∷ case (bytes "00120") 120 ∷ case (bytes "18446744073709551615") 18446744073709551615 ∷ [])
 unfolding told
 told-back = refl
