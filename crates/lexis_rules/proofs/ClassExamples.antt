@@ -10,7 +10,7 @@ use Rattle.lexis_rules.specs.Bytes.{inClass, letter, lower}
 use Rattle.lexis_rules.proofs.Examples.{opened}
 
 -- n numbers from a on
-abbrev counting : ℕ → ℕ → List ℕ
+abbrev pub counting : ℕ → ℕ → List ℕ
 counting zero a = []
 counting (suc n) a = a ∷ counting n (suc a)
 

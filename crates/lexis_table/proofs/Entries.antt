@@ -52,7 +52,7 @@ placed-below Delimiter = omega arith
 placed-below Tag = omega arith
 
 -- its binary digit says whether a byte is of it
-said : (c : Class) (b : ℕ) → eqb (entryOf b / 2 ^ placeOf c % 2) 1 ≡ inClass c b
+pub said : (c : Class) (b : ℕ) → eqb (entryOf b / 2 ^ placeOf c % 2) 1 ≡ inClass c b
 said c b =
     bit-at (λ (k : ℕ). inClass (getD order k Tag) b) 13 0 (placeOf c) (placed-below c)
     ∙ ap (λ (d : Class). inClass d b) (ap (λ (k : ℕ). getD order k Tag) (zero-add (placeOf c)) ∙ placed c)
