@@ -1,3 +1,3 @@
 pub mod Arms
 pub mod Entries
-pub mod Listed
+pub mod EveryEntry

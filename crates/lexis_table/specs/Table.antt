@@ -18,7 +18,7 @@ entryOf b = bitsOf (λ (k : ℕ). inClass (getD order k Tag) b) 0 13
 -- the table itself, sixteen bytes to a row: the first row has the entries of the bytes 0 to 15, the last those of 240 to 255. How to read an entry: 0x17F0,
 -- that of "A" (65, the second of the fifth row), is 0x1000 (Tag) + 0x0400 (Visible) + 0x0200 (Name) + 0x0100 (Escaped) + 0x0080 (Comment) + 0x0040 (Quoted) +
 -- 0x0020 (Token) + 0x0010 (Keyword); 0x0008 is Digit, 0x0004 Zero, 0x0002 Opening, 0x0001 Blank, and 0x0800 Delimiter. Each is the entry of its byte by 01's
--- rules (`entries-at` in proofs/Listed.antt)
+-- rules (`entries-at` in proofs/EveryEntry.antt)
 abbrev pub entries : List ℕ
 entries =
     0x0000 ∷ 0x0000 ∷ 0x0000 ∷ 0x0000 ∷ 0x0000 ∷ 0x0000 ∷ 0x0000 ∷ 0x0000 ∷ 0x0000 ∷ 0x19C3 ∷ 0x0000 ∷ 0x0000 ∷ 0x0000 ∷ 0x0802 ∷ 0x0000 ∷ 0x0000 ∷

@@ -1,4 +1,4 @@
--- 02, ticket [5]: the table of 256 entries agrees at every entry with 01's rules, with that of a token among them: one computed test.
+-- 02, ticket [5]: the table of 256 entries agrees at every entry with 01's rules, that of a token among them: computed, 64 entries at a time.
 use Prim.Native.Nat.{ℕ, zero, suc, _+_, _*_, _/_, _%_, _^_, _<_}
 use native.Mathlib.Omega.{arith}
 use native.Mathlib.Nat.{add-zero, add-suc, suc-add, le-of-suc-le-suc, not-suc-le-zero}
