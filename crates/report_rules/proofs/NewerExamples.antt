@@ -5,14 +5,17 @@ use native.Mathlib.Omega.{arith}
 use mathlib.Core.Path.{_≡_, refl, ap}
 use mathlib.Core.Bool.{true, false}
 use mathlib.Core.List.{List, [], _∷_, map}
+use mathlib.Core.Option.{none}
 use lib.ListN.{length, getD}
+use Rattle.base_sequences.proofs.Booleans.{no-true}
 use Rattle.base_readers.specs.Texts.{bytes}
 use Rattle.base_readers.specs.Parsers.{Got, nothing, got}
 use Rattle.base_readers.proofs.Cases.{case, Says}
+use Rattle.lexis_rules.specs.declared.VersionNumber.the-variants.{Exact}
 use Rattle.result_rules.specs.Results.{Result, result}
 use Rattle.report_rules.specs.Body.{Head, unreadable, malformed, newer, noResult, results, reading}
 use Rattle.report_rules.specs.Report.{Answer}
-use Rattle.report_rules.specs.Newer.{naming, WithinLimit, wellFormed, resultsOf, IsResult, Same, OneMore}
+use Rattle.report_rules.specs.Newer.{naming, Names, WithinLimit, wellFormed, WellFormed, resultsOf, IsResult, Same, OneMore}
 use Rattle.report_rules.specs.Beside.{insertionPlaces, insertAt}
 use Rattle.report_rules.proofs.Unfolding.{opened}
 
@@ -35,7 +38,23 @@ names :
 unfolding opened
 names = refl
 
--- a field within the size limit: none of 65,537 bytes is
+-- the place after its number, and its digits: no others
+names-two : Names (bytes "a 02;") (bytes "2") 4
+unfolding opened
+names-two = record { identifier = bytes "a"; reads = refl }
+
+not-its-end : Names (bytes "a 02;") (bytes "2") 5 → ⊥
+unfolding opened
+not-its-end n = let h : _≡_ {A = ℕ} 4 5 = ap (λ (g : Got Head). elim g [ nothing ↦ 0 | got h k ↦ k ]) (n .reads) in omega arith
+
+not-its-digits : Names (bytes "a 02;") (bytes "3") 4 → ⊥
+unfolding opened
+not-its-digits n = let h : _≡_ {A = ℕ} 50 51 = ap (λ (g : Got Head). elim g [ nothing ↦ 0 | got h k ↦ getD (h .version) 0 0 ]) (n .reads) in omega arith
+
+-- a field within the size limit: one of 65,536 bytes is, and none of 65,537
+at-limit : (body : List ℕ) → length body ≡ 65536 → WithinLimit body
+at-limit body e = omega (arith, e)
+
 within : (body : List ℕ) → length body ≡ 65537 → WithinLimit body → ⊥
 within body e h = let l : 65537 ≤ 65536 = rw e at h in omega arith
 
@@ -51,6 +70,14 @@ well-formed-bodies :
 unfolding opened
 well-formed-bodies = refl
 
+is-well-formed : WellFormed (bytes "a;none")
+unfolding opened
+is-well-formed = refl
+
+not-well-formed : WellFormed (bytes "a 2;none") → ⊥
+unfolding opened
+not-well-formed e = no-true e
+
 -- the results of a body; the word none has none
 of-bodies : Says (λ b. length (resultsOf (reading b))) (case (bytes "a;b=c;d=e") 2 ∷ case (bytes "a;b=c") 1 ∷ case (bytes "a;none") 0 ∷ case (bytes "a 2;b=c") 0 ∷ [])
 unfolding opened
@@ -62,6 +89,10 @@ of-bodies = refl
 abbrev taken : Got Result → ℕ
 taken nothing = 0
 taken (got r n) = n
+
+is-result : IsResult (bytes ";b=c") (record { methodspec = record { method = bytes "b"; version = Exact 1; result = bytes "c" }; reason = none; properties = [] })
+unfolding opened
+is-result = refl
 
 whole-result : (r : Result) → IsResult (bytes ";b=c ") r → ⊥
 unfolding opened

@@ -50,10 +50,10 @@ escapes = refl
 
 -- ==== lines
 
--- 01, The report: lines ended by LF, columns parted by one tab
+-- 01, The report: lines ended by LF, columns parted by one tab; also one without columns
 columns :
-    map line ((bytes "a" ∷ []) ∷ (bytes "a" ∷ bytes "b" ∷ []) ∷ (bytes "a" ∷ [] ∷ bytes "c" ∷ []) ∷ [])
-    ≡ bytes "a\n" ∷ bytes "a\tb\n" ∷ bytes "a\t\tc\n" ∷ []
+    map line ([] ∷ (bytes "a" ∷ []) ∷ (bytes "a" ∷ bytes "b" ∷ []) ∷ (bytes "a" ∷ [] ∷ bytes "c" ∷ []) ∷ [])
+    ≡ bytes "\n" ∷ bytes "a\n" ∷ bytes "a\tb\n" ∷ bytes "a\t\tc\n" ∷ []
 unfolding opened
 columns = refl
 
