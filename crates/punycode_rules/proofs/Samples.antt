@@ -8,7 +8,7 @@ use mathlib.Core.Option.{none, some}
 use Rattle.base_readers.specs.Texts.{bytes}
 use Rattle.base_readers.proofs.Cases.{case, Says, copies}
 use Rattle.lexis_rules.proofs.ClassExamples.{range, members}
-use Rattle.punycode_rules.specs.Punycode.{digitOf, scaled, adapt, basic, punycode}
+use Rattle.punycode_rules.specs.Punycode.{base, tmin, tmax, skew, damp, initialBias, initialN, digitOf, scaled, adapt, basic, punycode}
 use Rattle.punycode_rules.specs.Unicode.{utf8}
 use Rattle.punycode_rules.specs.Labels.{prefixed, inLabel, labels, decoded, spelling, anyPrefixed, spellingLimit, doubleHyphen}
 use Rattle.punycode_rules.proofs.Unfolding.{opened}
@@ -119,6 +119,10 @@ biases = refl
 
 -- ==== RFC 3492, sections 5 and 6: the edges
 
+-- section 5: the parameters, in its order
+parameters : base ∷ tmin ∷ tmax ∷ skew ∷ damp ∷ initialBias ∷ initialN ∷ [] ≡ 36 ∷ 1 ∷ 26 ∷ 38 ∷ 700 ∷ 72 ∷ 0x80 ∷ []
+parameters = refl
+
 -- section 5: the digit of each byte: 0 to 9 are 26 to 35, A to Z and a to z are 0 to 25, and 36 says that it is none: "/", ":", "@", "[", "`" and "{", which
 -- stand next to these, are none
 digits : map digitOf (range 0 255) ≡ copies 48 36 ++ range 26 35 ++ copies 7 36 ++ range 0 25 ++ copies 6 36 ++ range 0 25 ++ copies 133 36
@@ -135,28 +139,40 @@ scales : map (λ (delta : ℕ). scaled delta 0 delta) (455 ∷ 456 ∷ 468 ∷ [
 unfolding opened
 scales = refl
 
+-- where no turns are left, nothing is scaled down
+scales-last : map (scaled 0 7) (0 ∷ 38 ∷ 456 ∷ []) ≡ 7 ∷ 25 ∷ 40 ∷ []
+unfolding opened
+scales-last = refl
+
 -- section 6.2: the first time is where oldi is 0: not the second one here, though n is still its initial 80 hex then
 first-time : punycode (bytes "a434vda") ≡ some (0x80 ∷ 0x3000 ∷ 0x3001 ∷ [])
 unfolding opened
 first-time = refl
 
--- ==== RFC 3629, section 3: the last number of each form, and the first of the next
+-- ==== RFC 3629, section 3: the last number of each form and the first of the next, and of each first byte
 
-forms :
-    map utf8 (0x7F ∷ 0x80 ∷ 0x7FF ∷ 0x800 ∷ 0xFFFF ∷ 0x10000 ∷ [])
-    ≡ (0x7F ∷ [])
-    ∷ (0xC2 ∷ 0x80 ∷ [])
-    ∷ (0xDF ∷ 0xBF ∷ [])
-    ∷ (0xE0 ∷ 0xA0 ∷ 0x80 ∷ [])
-    ∷ (0xEF ∷ 0xBF ∷ 0xBF ∷ [])
-    ∷ (0xF0 ∷ 0x90 ∷ 0x80 ∷ 0x80 ∷ [])
-    ∷ []
+forms-short :
+    map utf8 (0x7F ∷ 0x80 ∷ 0xBF ∷ 0xC0 ∷ 0x7FF ∷ [])
+    ≡ (0x7F ∷ []) ∷ (0xC2 ∷ 0x80 ∷ []) ∷ (0xC2 ∷ 0xBF ∷ []) ∷ (0xC3 ∷ 0x80 ∷ []) ∷ (0xDF ∷ 0xBF ∷ []) ∷ []
 unfolding opened
-forms = refl
+forms-short = refl
+
+forms-three :
+    map utf8 (0x800 ∷ 0xFFF ∷ 0x1000 ∷ 0xFFFF ∷ [])
+    ≡ (0xE0 ∷ 0xA0 ∷ 0x80 ∷ []) ∷ (0xE0 ∷ 0xBF ∷ 0xBF ∷ []) ∷ (0xE1 ∷ 0x80 ∷ 0x80 ∷ []) ∷ (0xEF ∷ 0xBF ∷ 0xBF ∷ []) ∷ []
+unfolding opened
+forms-three = refl
+
+forms-four :
+    map utf8 (0x10000 ∷ 0x3FFFF ∷ 0x40000 ∷ 0x10FFFF ∷ [])
+    ≡ (0xF0 ∷ 0x90 ∷ 0x80 ∷ 0x80 ∷ []) ∷ (0xF0 ∷ 0xBF ∷ 0xBF ∷ 0xBF ∷ []) ∷ (0xF1 ∷ 0x80 ∷ 0x80 ∷ 0x80 ∷ []) ∷ (0xF4 ∷ 0x8F ∷ 0xBF ∷ 0xBF ∷ []) ∷ []
+unfolding opened
+forms-four = refl
 
 -- ==== 02, ticket [2]: the edges
 
--- the edges: nothing behind the prefix; a hyphen that is first is no delimiter; a number cut short; no digit; a byte from 128 up
+-- the edges: nothing behind the prefix; a hyphen that is first is no delimiter; a number cut short; no digit, also where digits follow; a byte from
+-- 128 up
 edges :
     Says punycode
     (case [] (some [])
@@ -167,6 +183,7 @@ edges :
     ∷ case (bytes "mller-KVA") (some (109 ∷ 252 ∷ bytes "ller"))
     ∷ case (bytes "mller-kv") none
     ∷ case (bytes "mller-k!") none
+    ∷ case (bytes "mller-k!a") none
     ∷ case (252 ∷ bytes "-kva") none
     ∷ [])
 unfolding opened
