@@ -11,7 +11,7 @@ use Rattle.base_readers.proofs.Cases.{case, Says}
 use Rattle.lexis_rules.proofs.ClassExamples.{range, members, figures}
 use Rattle.result_rules.specs.Results.{Mailbox}
 use Rattle.write_rules.specs.Entries.{Entry, identified, unstated, judged, reasoned, shown, lineOf, isHex, hexValue}
-use Rattle.write_rules.specs.Compose.{Answer, refusal, sized, answer, compose}
+use Rattle.write_rules.specs.Compose.{entries, Answer, refusal, sized, answer, compose}
 use Rattle.write_rules.specs.Answers.{answerOf, leaves}
 use Rattle.write_rules.specs.Promise.{linesWithFeeds}
 use Rattle.write_rules.proofs.Unfolding.{opened}
@@ -311,6 +311,13 @@ followers :
     ∷ [])
 unfolding opened
 followers = refl
+
+-- what was read up to the place of 11; 0 and 0 at the end
+walks :
+    map entries (bytes "id\ta\nnone\n" ∷ bytes "id\ta\n" ∷ [])
+    ≡ record { items = identified (bytes "a") ∷ unstated ∷ []; number = 0; place = 0 } ∷ record { items = identified (bytes "a") ∷ []; number = 11; place = 2 } ∷ []
+unfolding opened
+walks = refl
 
 -- lines keep their LF, and an empty one counts
 feeds : linesWithFeeds (bytes "a\n\nb") ≡ bytes "a\n" ∷ bytes "\n" ∷ bytes "b" ∷ []
