@@ -30,8 +30,11 @@ pub const LINES: usize = 4 * Size::MOST + 1;
 // results, with 18 bytes more, and one of them 144 more: 42 + 2 * 229,376 + 2 * 5 * 7,793 + 13 * 7,793 + 18 * 4 * 512 + 144 * 512 = 748,625.
 pub const EXPLAINED: usize = 786432;
 
-// A room for a judgement.
+// A room for a judgement (`judgement-fits` in command_laws/proofs/JudgementRooms.antt).
 pub const JUDGEMENT: usize = 512;
+
+// A room for the last line (`ending-fits` in command_rules/proofs/EndingsFit.antt).
+pub const LINE: usize = 256;
 
 // For a block, what is kept of it, or a body.
 pub fn block() -> [u8; BLOCK]
@@ -79,4 +82,12 @@ pub fn judgement() -> [u8; JUDGEMENT]
     ensures { λ r. ⌜ 512 ≡ length r ⌝ }
 {
     [0u8; JUDGEMENT]
+}
+
+// For the last line.
+pub fn line() -> [u8; LINE]
+    ensures { λ r. ⌜ r ≡ replicate 256 0 ⌝ }
+    ensures { λ r. ⌜ 256 ≡ length r ⌝ }
+{
+    [0u8; LINE]
 }

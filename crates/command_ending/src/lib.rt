@@ -1,49 +1,58 @@
-// How the command ends: the output, where there is one, and then one line on standard error (`command_message`), which is written in one call.
-// `bin/orbendash` takes the exit status from it and takes its absence for a failure, so nothing that goes wrong on the way can look like
-// success.
+// How a subcommand ends, by what its call answered, and how the command does, once the output has gone or not.
 //
-//   outcome(number, refusal, out, written)   writes the output of a call, and tells how the command ends
-//   end(ending, list)                        writes the line of an ending
+//   made_of(number, refusal, size)   what a call makes that answered this number and wrote so many bytes
+//   said_of(size, room)              what words make that have so many bytes, in a buffer with this room
+//   ending_after(made, went)         how the command ends
 use base_answers::Number;
+use command_output_rules::Made;
 use command_rules::Ending;
-use libc::STDERR_FILENO;
-use libc::STDOUT_FILENO;
 ghost use mathlib.Core.Path.{_≡_};
-ghost use Prim.Native.Nat.{min};
-ghost use lib.ListN.{length};
-ghost use Rattle.base_sequences.specs.Stored.{cap};
-ghost use Rattle.command_rules.specs.Messages.{endingLine};
-ghost use Rattle.command_ending.specs.Outcomes.{Outcome};
+ghost use Rattle.command_output_rules.specs.Outputs.{madeOf, saidOf, endingAfter};
 
-// More than any line has (`ending-fits` in command_rules/proofs/EndingsFit.antt).
-const LINE: usize = 256;
-
-// Writes the line of an ending, and returns its length; `list` is our own list. Where that fails there is nothing left to tell it by: the line is
-// missing.
-pub fn end(ending: Ending, list: &[u8]) -> usize
-    ensures { λ r. ⌜ r ≡ min (length (endingLine ending (now (list .entry)))) cap ⌝ }
-{
-    let mut line = [0u8; LINE];
-    let n = command_message::put_ending(ending, list, &mut line, 0);
-    if n <= line.len() {
-        command_files::write_whole(STDERR_FILENO, &line[..n]);
-    }
-    n
-}
-
-// How a call ends that answered with this number and put so many bytes into a buffer: where the number is another than 0 it is refused. Only where
-// all of the output went is the command done. An output that doesn't fit its buffer can't be, by the limits; if it ever is, nothing is written.
-pub fn outcome(number: u8, refusal: Ending, out: &[u8], written: usize) -> Ending
-    ensures { λ r. ⌜ Outcome number refusal (length (now (out .entry))) written r ⌝ }
+// What a call makes that answered this number and wrote so many bytes: where the number is another than 0 it is refused.
+pub fn made_of(number: u8, refusal: Ending, size: usize) -> Made
+    ensures { λ r. ⌜ r ≡ madeOf number refusal size ⌝ }
 {
     if number != Number::DONE {
-        return refusal;
+        return Made {
+            ending: refusal,
+            written: 0,
+        };
     }
-    if written > out.len() {
-        return Ending::OutputTooLong;
+    Made {
+        ending: Ending::Done,
+        written: size,
     }
-    if command_files::write_whole(STDOUT_FILENO, &out[..written]) {
-        return Ending::Done;
+}
+
+// What words make that have so many bytes, in a buffer with this room: where they don't fit, none of them is the output.
+pub fn said_of(size: usize, room: usize) -> Made
+    ensures { λ r. ⌜ r ≡ saidOf size room ⌝ }
+{
+    if size > room {
+        return Made {
+            ending: Ending::OutputTooLong,
+            written: 0,
+        };
     }
-    Ending::Unwritten
+    Made {
+        ending: Ending::Done,
+        written: size,
+    }
+}
+
+// How the command ends, by what was made and whether all of the output has gone.
+pub fn ending_after(made: Made, went: bool) -> Ending
+    ensures { λ r. ⌜ r ≡ endingAfter made went ⌝ }
+{
+    let ending = made.ending;
+    match ending {
+        Ending::Done => {
+            if went {
+                return Ending::Done;
+            }
+            Ending::Unwritten
+        }
+        _ => ending,
+    }
 }

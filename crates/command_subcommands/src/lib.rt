@@ -1,100 +1,130 @@
-// What each subcommand does with what was read: one call, and its output written. The answer is how the command ends.
+// What each subcommand makes of what was read: one call, and its output at the front of a lent buffer. The answer is how the command ends once that has gone,
+// and how many bytes it has. Nothing is read or written here.
 //
-//   strip_block(block, list)     strips a block and writes what is kept
-//   report_block(block, list)    writes what each Authentication-Results field of a block says
-//   explain_block(block, list)   writes in words what each Authentication-Results field of a block says
-//   check_list(list)             writes how the entries of our own list are compared, and what is noticed of them
-//   judge_block(block, digits)   writes what the ARC chain of a block says by the verdicts that these digits say
-//   write_body(lines)            writes the body that has these lines as its report
+//   strip_block(block, list, out)     what is kept of a block
+//   report_block(block, list, out)    what each Authentication-Results field of a block says
+//   explain_block(block, list, out)   in words what each Authentication-Results field of a block says
+//   check_list(list, out)             how the entries of our own list are compared, and what is noticed of them
+//   judge_block(block, digits, out)   what the ARC chain of a block says by the verdicts that these digits say
+//   write_body(lines, out)            the body that has these lines as its report
+use base_answers::Number;
 use blockreport_rules::Detail;
+use command_output_rules::Made;
 use command_rules::Ending;
-use libc::STDERR_FILENO;
+use ownlist_check::Checked;
 ghost use mathlib.Core.Path.{_≡_};
 ghost use mathlib.Core.List.{map};
-ghost use Prim.Native.Nat.{min};
-ghost use lib.ListN.{length};
-ghost use Rattle.base_sequences.specs.Stored.{cap};
-ghost use Rattle.ownlist_rules.specs.OwnList.{ownList};
-ghost use Rattle.ownlist_check.specs.Steps.{checkedOf};
-ghost use Rattle.strip_rules.specs.Strip as stripping;
-ghost use Rattle.strip_rules.specs.Answers as stripped;
-ghost use Rattle.blockreport_rules.specs.declared.Detail.the-variants.{Reported, Identified};
-ghost use Rattle.blockreport_rules.specs.BlockReport as reporting;
-ghost use Rattle.blockreport_rules.specs.Answers as reported;
-ghost use Rattle.write_rules.specs.Compose as composing;
-ghost use Rattle.write_rules.specs.Answers as composed;
-ghost use Rattle.arc_rules.specs.Chain as chains;
-ghost use Rattle.arc_rules.specs.Answers as judged;
 ghost use Rattle.judgement_rules.specs.Judgement.{verdictOf};
-ghost use Rattle.command_list_rules.specs.Notices.{notesOf, checkText};
-ghost use Rattle.command_sets.specs.Sets.{setsOf};
-ghost use Rattle.command_outcomes.specs.Ends.{StripEnds, ReportEnds, ExplainEnds, JudgeEnds, CheckEnds, WriteEnds};
+ghost use Rattle.command_output_rules.specs.Outputs.{verdictsRefusal, strippedBlock, reportedBlock, explainedBlock, checkedList, judgedBlock, writtenBody};
 
-// Strips a block by our own list, and writes what is kept.
-pub fn strip_block(block: &[u8], list: &[u8]) -> Ending
-    ensures { λ r. ⌜ StripEnds 65537 (stripped.answerOf (stripping.strip (now (block .entry)) (now (list .entry)) 65537)) r ⌝ }
+// Strips a block by our own list: the output is what is kept.
+pub fn strip_block(block: &[u8], list: &[u8], out: &mut [u8]) -> Made
+    ensures { λ r. ⌜ r ≡ strippedBlock (now (block .entry)) (now (list .entry)) (now (out .entry)) .made ⌝ }
+    ensures { λ _. ⌜ now (out .exit) ≡ strippedBlock (now (block .entry)) (now (list .entry)) (now (out .entry)) .left ⌝ }
 {
-    let mut out = command_buffers::block();
-    let a = strip::strip(block, list, &mut out);
-    command_outcomes::strip_outcome(a, &out)
+    let a = strip::strip(block, list, out);
+    let refusal = Ending::Refused {
+        number: a.number,
+        place: a.place,
+    };
+    command_ending::made_of(a.number, refusal, a.kept)
 }
 
-// Writes what each Authentication-Results field of a block says, and by our own list whether it speaks in our name.
-pub fn report_block(block: &[u8], list: &[u8]) -> Ending
-    ensures { λ r. ⌜ ReportEnds 229377 (reported.answerOf (reporting.blockReport Reported (now (block .entry)) (now (list .entry)) 229377)) r ⌝ }
+// Reports a block: the output is what each Authentication-Results field of it says, and by our own list whether it speaks in our name.
+pub fn report_block(block: &[u8], list: &[u8], out: &mut [u8]) -> Made
+    ensures { λ r. ⌜ r ≡ reportedBlock (now (block .entry)) (now (list .entry)) (now (out .entry)) .made ⌝ }
+    ensures { λ _. ⌜ now (out .exit) ≡ reportedBlock (now (block .entry)) (now (list .entry)) (now (out .entry)) .left ⌝ }
 {
-    let mut out = command_buffers::reports();
-    let a = blockreport::report_block(Detail::Reported, block, list, &mut out);
-    command_outcomes::report_outcome(a, &out)
+    let a = blockreport::report_block(Detail::Reported, block, list, out);
+    let refusal = Ending::Refused {
+        number: a.number,
+        place: a.place,
+    };
+    command_ending::made_of(a.number, refusal, a.written)
 }
 
-// Writes in words what each Authentication-Results field of a block says, and by our own list whether it speaks in our name. A field that is not well-formed
-// is told with its identifier.
-pub fn explain_block(block: &[u8], list: &[u8]) -> Ending
-    ensures { λ r. ⌜ ExplainEnds (reported.answerOf (reporting.blockReport Identified (now (block .entry)) (now (list .entry)) 229377)) (reporting.blockReport Identified (now (block .entry)) (now (list .entry)) 229377 .written) r ⌝ }
+// Reports a block in words: a field that is not well-formed is told with its identifier.
+pub fn explain_block(block: &[u8], list: &[u8], out: &mut [u8]) -> Made
+    ensures { λ r. ⌜ r ≡ explainedBlock (now (block .entry)) (now (list .entry)) (now (out .entry)) .made ⌝ }
+    ensures { λ _. ⌜ now (out .exit) ≡ explainedBlock (now (block .entry)) (now (list .entry)) (now (out .entry)) .left ⌝ }
 {
     let mut lines = command_buffers::reports();
     let a = blockreport::report_block(Detail::Identified, block, list, &mut lines);
-    command_outcomes::explain_outcome(a, &lines)
+    if a.number != Number::DONE {
+        let refusal = Ending::Refused {
+            number: a.number,
+            place: a.place,
+        };
+        return Made {
+            ending: refusal,
+            written: 0,
+        };
+    }
+    let n = explain::put_explained(text_parts::part(&lines, 0, a.written), out, 0);
+    command_ending::said_of(n, out.len())
 }
 
-// Writes how the entries of our own list are compared, and what is noticed of them.
-pub fn check_list(list: &[u8]) -> Ending
-    ensures { λ r. ⌜ CheckEnds (checkedOf (ownList (now (list .entry)))) (checkText (now (list .entry))) r ⌝ }
+// Checks our own list: the output is how its entries are compared, and what is noticed of them.
+pub fn check_list(list: &[u8], out: &mut [u8]) -> Made
+    ensures { λ r. ⌜ r ≡ checkedList (now (list .entry)) (now (out .entry)) .made ⌝ }
+    ensures { λ _. ⌜ now (out .exit) ≡ checkedList (now (list .entry)) (now (out .entry)) .left ⌝ }
 {
+    match ownlist_check::check_list(list) {
+        Checked::Bad { place } => {
+            let refusal = Ending::Refused {
+                number: Number::BAD_LIST,
+                place,
+            };
+            return Made {
+                ending: refusal,
+                written: 0,
+            };
+        }
+        Checked::Good => {}
+    }
     let mut spelled = ownlist_spelled::room::spelled();
     let n = ownlist_spelled::spell_list(list, &mut spelled);
-    let d = ownlist_check::check_list(list);
-    command_outcomes::check_outcome(d, &spelled, n, list)
+    let m = command_list::put_check(text_parts::part(&spelled, 0, n), list, out, 0);
+    command_ending::said_of(m, out.len())
 }
 
-// Writes to standard error what is noticed of our own list, and returns the length of that. Where it can't be written the command goes on: it is a help, and no answer.
-pub fn tell_notes(list: &[u8]) -> usize
-    ensures { λ r. ⌜ r ≡ min (length (notesOf (now (list .entry)))) cap ⌝ }
+// What a judgement is refused with.
+fn refusal_of(number: u8, place: usize, sets: usize) -> Ending
+    ensures { λ r. ⌜ r ≡ verdictsRefusal number place sets ⌝ }
 {
-    let mut out = command_buffers::list();
-    let n = command_list::put_notes(list, &mut out, 0);
-    if n <= out.len() {
-        command_files::write_whole(STDERR_FILENO, &out[..n]);
+    if number == Number::BAD_VERDICTS {
+        return Ending::VerdictsRefused { sets };
     }
-    n
+    Ending::Refused { number, place }
 }
 
-// Writes what the ARC chain of a block says by the verdicts that these digits say. The digits are turned into verdicts where they stand.
-pub fn judge_block(block: &[u8], digits: &mut [u8]) -> Ending
-    ensures { λ r. ⌜ JudgeEnds (judged.answerOf (chains.judge (now (block .entry)) (map verdictOf (now (digits .entry))))) (setsOf (now (block .entry))) r ⌝ }
+// Judges the ARC chain of a block: the output says it in columns and in words. The digits are turned into verdicts where they stand.
+pub fn judge_block(block: &[u8], digits: &mut [u8], out: &mut [u8]) -> Made
+    ensures { λ r. ⌜ r ≡ judgedBlock (now (block .entry)) (now (digits .entry)) (now (out .entry)) .made ⌝ }
+    ensures { λ _. ⌜ now (out .exit) ≡ judgedBlock (now (block .entry)) (now (digits .entry)) (now (out .entry)) .left ⌝ }
     ensures { λ _. ⌜ now (digits .exit) ≡ map verdictOf (now (digits .entry)) ⌝ }
 {
     judgement::read_verdicts(digits);
     let j = arc::judge(block, digits);
-    command_outcomes::judge_outcome(j, command_sets::sets(block))
+    if j.number != Number::DONE {
+        return Made {
+            ending: refusal_of(j.number, j.place, command_sets::sets(block)),
+            written: 0,
+        };
+    }
+    let n = judgement::put_judgement(j, out, 0);
+    command_ending::said_of(n, out.len())
 }
 
-// Writes the body that has these lines as its report.
-pub fn write_body(lines: &[u8]) -> Ending
-    ensures { λ r. ⌜ WriteEnds 65537 (composed.answerOf (composing.compose (now (lines .entry)) 65537)) r ⌝ }
+// Composes a body: the output is the one that has these lines as its report.
+pub fn write_body(lines: &[u8], out: &mut [u8]) -> Made
+    ensures { λ r. ⌜ r ≡ writtenBody (now (lines .entry)) (now (out .entry)) .made ⌝ }
+    ensures { λ _. ⌜ now (out .exit) ≡ writtenBody (now (lines .entry)) (now (out .entry)) .left ⌝ }
 {
-    let mut out = command_buffers::block();
-    let a = write::write(lines, &mut out);
-    command_outcomes::write_outcome(a, &out)
+    let a = write::write(lines, out);
+    let refusal = Ending::LinesRefused {
+        number: a.number,
+        place: a.place,
+    };
+    command_ending::made_of(a.number, refusal, a.written)
 }

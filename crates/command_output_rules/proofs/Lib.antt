@@ -1,0 +1,3 @@
+pub mod Unfolding
+pub mod Examples
+pub mod EndingCases
