@@ -6,3 +6,4 @@ pub mod Sizes
 pub mod Limits
 pub mod RepeatedEntries
 pub mod SevenIsUnreadable
+pub mod Rooms

@@ -41,7 +41,7 @@ decimal-size : (n : ℕ) → length (decimal n) ≤ n + 1
 unfolding decimal
 decimal-size n = digits-size n n
 
-word-size : (o : Own) → length (wordOf o) ≤ 10
+pub word-size : (o : Own) → length (wordOf o) ≤ 10
 unfolding wordOf
 word-size Ours = omega arith
 word-size Others = omega arith
@@ -51,7 +51,7 @@ field-line-size : (n : ℕ) (o : Own) (a i : ℕ) → length (fieldLine n o a i)
 unfolding fieldLine line
 field-line-size n o a i = simp length-append (omega (arith, decimal-size n, word-size o, decimal-size a, decimal-size i))
 
-number-size : (x : Reading) → numberOf x ≤ 9
+pub number-size : (x : Reading) → numberOf x ≤ 9
 number-size unreadable = omega arith
 number-size malformed = omega arith
 number-size (newer h) = omega arith

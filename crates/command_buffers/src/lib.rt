@@ -8,15 +8,16 @@ use ownlist_check::Entries;
 ghost use mathlib.Core.Path.{_≡_};
 ghost use lib.ListN.{length, replicate};
 
-// The most bytes of a block that are read: one more than a block may have. What is kept of one, and a body, fit too.
+// The most bytes of a block that are read: one more than a block may have. What is kept of one, and a body, fit too (`strip-room` and `write-room` in
+// command_laws/proofs/AsAnswered.antt).
 pub const BLOCK: usize = Size::MOST + 1;
 
 // The most bytes of a list that are read: all entries that a list may have, each with its LF, and one more that is too long. What is behind
-// these can't change which entry is the first bad one.
+// these can't change which entry is the first bad one. What is noticed of a list fits too (`notes-fit` in command_list_rules/proofs/Fits.antt).
 pub const LIST: usize = (Entries::ENTRIES + 1) * (Entries::LONGEST + 1);
 
-// A room that the reports of all fields of a block fit, and one byte more: for each field its line of less than 60 bytes, and four. So do the lines of the
-// identifiers of fields that answer 9, which have no report (`detailed-size` in blockreport_laws/proofs/Sizes.antt).
+// A room for the reports of all fields of a block, and one byte more: three bytes for each byte of a block and 64 for each field (`room-enough` in
+// blockreport_laws/proofs/Rooms.antt, for both details). What `check` says of our own list fits too (`check-fits` in command_list_rules/proofs/Fits.antt).
 pub const REPORTS: usize = 3 * Size::MOST + 64 * Walk::FIELDS + 1;
 
 // The most bytes of report lines that are read, and one more to tell that there are more. A body that may be written has lines of at most
@@ -24,10 +25,7 @@ pub const REPORTS: usize = 3 * Size::MOST + 64 * Walk::FIELDS + 1;
 // whole gets a refusal of its own.
 pub const LINES: usize = 4 * Size::MOST + 1;
 
-// A room for the reports of a block in words (`explained-long` in explain_rules/proofs/PlainAndShort.antt). The lines have at most 229,376 bytes. Each is shown with two
-// bytes at most, but for a tab and an LF, for which no more than four are counted. Every line but that of a header version stands for nine bytes of the block
-// at least, so there are at most 7,281 and 512 lines with at most five such bytes each, and 13 bytes of words of our own; a field has at most four lines in front of its
-// results, with 18 bytes more, and one of them 144 more: 42 + 2 * 229,376 + 2 * 5 * 7,793 + 13 * 7,793 + 18 * 4 * 512 + 144 * 512 = 748,625.
+// A room for the reports of a block in words (`explained-fits` in command_laws/proofs/ExplainRooms.antt).
 pub const EXPLAINED: usize = 786432;
 
 // A room for a judgement (`judgement-fits` in command_laws/proofs/JudgementRooms.antt).

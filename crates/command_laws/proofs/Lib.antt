@@ -1,1 +1,5 @@
 pub mod JudgementRooms
+pub mod AsAnswered
+pub mod LastLines
+pub mod LastLineTells
+pub mod ExplainRooms

@@ -34,7 +34,6 @@ use Rattle.write_rules.specs.declared.Written.{Written}
 use Rattle.write_rules.specs.Compose.{compose}
 use Rattle.write_rules.specs.Answers as composed
 use Rattle.explain_rules.specs.Explained.{explained}
-use Rattle.explain_rules.proofs.PlainAndShort.{explained-most}
 use Rattle.arc_rules.specs.declared.Judged.{Judged}
 use Rattle.arc_rules.specs.Chain.{judge}
 use Rattle.arc_rules.specs.Answers as judged
@@ -49,6 +48,7 @@ use Rattle.command_output_rules.specs.declared.Made.{Made}
 use Rattle.command_output_rules.specs.Outputs.{Output, madeOf, saidOf, said, worded, strippedBlock, reportedBlock, explainedBlock, verdictsRefusal, checkedList, judgedBlock, writtenBody}
 use Rattle.command_output_rules.proofs.EndingCases.{worded-refused, worded-said, stored-front}
 use Rattle.command_laws.proofs.JudgementRooms.{judgement-fits}
+use Rattle.command_laws.proofs.ExplainRooms.{explained-fits}
 
 -- this is answered, and the lent buffer holds that
 abbrev pub Makes : Output → Made → List ℕ → Type 0
@@ -128,13 +128,12 @@ module _ (block list : List ℕ) (n : ℕ) (q : 229377 ≡ n) (b : BlockReported
       let s : span lines 0 (b .written) ≡ a .written = rw (z, l) (take-append-seam (a .written) (drop (length (a .written)) first)) in
       s ∙ ap (λ (k : ℕ). blockReport Identified block list k .written) (sym q)
 
-  -- a report that fits has no more bytes than its room
+  -- what is said of a report is no longer than the command's buffer for it
   short : b .number ≡ 0 → length (explained (blockReport Identified block list 229377 .written)) < cap
   short h =
-      let z = sym number-told ∙ h in
-      let w = report-laws.zero-when Identified block list 229377 z in
-      let f = ap (λ (y : Answer). length (y .written)) (report-laws.when-zero Identified block list 229377 (w .0) (w .1)) in
-      omega (arith, explained-most (blockReport Identified block list 229377 .written), f, w .1)
+      let w = report-laws.zero-when Identified block list 229377 (sym number-told ∙ h) in
+      let f = ap (λ (y : Answer). length (explained (y .written))) (report-laws.when-zero Identified block list 229377 (w .0) (w .1)) in
+      omega (arith, explained-fits block list (w .0), f)
 
   pub explain-makes : (first lines : List ℕ) → lines ≡ reported.leaves (blockReport Identified block list n) first → b .number ≡ 0
       → (part old new : List ℕ) (m : ℕ) (r : Made) → part ≡ span lines 0 (b .written) → Clipped old 0 (explained part) new m → r ≡ saidOf m (length new)

@@ -1,14 +1,12 @@
 -- What holds of what is said of any report, of any bytes.
-use Prim.Native.Nat.{ℕ, suc, _+_, _*_, _≤_, _<_}
+use Prim.Native.Nat.{ℕ, _+_, _*_, _≤_, _<_}
 use native.Mathlib.Omega.{arith}
 use mathlib.Core.Path.{_≡_, refl}
 use mathlib.Core.Logic.{_⊎_}
-use mathlib.Core.Bool.{Bool, true, false}
 use mathlib.Core.List.{List, [], _∷_}
-use lib.Dec.{eqb}
 use lib.ListN.{length, getD}
 use Rattle.base_readers.specs.Texts.{within}
-use Rattle.base_readers.specs.Lines.{onFirst, linesOf}
+use Rattle.base_readers.specs.Lines.{linesOf}
 use Rattle.explain_rules.specs.Explained.{explained}
 use Rattle.explain_rules.specs.Promise.{plain, weighed, added, fieldLines, headLines}
 use Rattle.explain_rules.proofs.Terminal.{AllPlain, all-at, plain-when, lines-plain}
@@ -38,20 +36,3 @@ explained-long l = omega (arith, explained-added l, added-most (linesOf l))
 -- of any bytes: no byte weighs more than four
 pub explained-lines : (l : List ℕ) → length (explained l) ≤ 42 + 4 * length l + 175 * length (linesOf l)
 explained-lines l = omega (arith, explained-long l, weighed-most l, fields-few (linesOf l), heads-few (linesOf l))
-
--- .. and each line has a byte at least
-lines-few : (l : List ℕ) → length (linesOf l) ≤ length l
-unfolding linesOf
-lines-few [] = omega arith
-lines-few (x ∷ xs) = go (eqb x 10) refl (lines-few xs)
-  where
-    first : (ls : List (List ℕ)) → length (onFirst x ls) ≤ suc (length ls)
-    first [] = omega arith
-    first (l ∷ ls) = omega arith
-
-    go : (t : Bool) → eqb x 10 ≡ t → length (linesOf xs) ≤ length xs → length (linesOf (x ∷ xs)) ≤ suc (length xs)
-    go true e h = rw (linesOf, e) (omega (arith, h))
-    go false e h = rw (linesOf, e) (omega (arith, h, first (linesOf xs)))
-
-pub explained-most : (l : List ℕ) → length (explained l) ≤ 42 + 179 * length l
-explained-most l = omega (arith, explained-lines l, lines-few l)
