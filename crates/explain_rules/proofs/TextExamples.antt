@@ -1,4 +1,5 @@
 -- Texts as they are shown and read back, at worked examples on both sides of each clause.
+use Prim.Native.Nat.{ℕ}
 use mathlib.Core.Path.{_≡_, refl}
 use mathlib.Core.Bool.{true, false}
 use mathlib.Core.List.{List, [], _∷_, _++_, map}
@@ -95,3 +96,8 @@ read-quoted : readShown (bytes "\"a\\\"\\\\\\x1B \\xFF, b: c\", d") ∷ readShow
     ≡ record { text = bytes "a\"\\" ++ (27 ∷ 32 ∷ 255 ∷ bytes ", b: c"); rest = bytes ", d" } ∷ record { text = []; rest = bytes "\"\"" } ∷ record { text = bytes "a"; rest = [] } ∷ []
 unfolding opened
 read-quoted = refl
+
+-- cut behind a backslash, behind an x, and behind one digit: 0 for what is missing
+read-cut : map (λ (t : List ℕ). readShown t .text) (bytes "\"\\" ∷ bytes "\"\\x" ∷ bytes "\"\\x4" ∷ []) ≡ (0 ∷ []) ∷ (0 ∷ []) ∷ (64 ∷ []) ∷ []
+unfolding opened
+read-cut = refl
