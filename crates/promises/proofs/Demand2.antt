@@ -17,7 +17,7 @@ use Rattle.report_rules.specs.Report.{idLine, lines, ignoredOf}
 use Rattle.result_rules.specs.Results.{Result}
 use Rattle.report_rules.specs.ByCase.{numberOf as answerNumber, textOf, countOf}
 use Rattle.report_rules.proofs.Unfolding as body-opened
-use Rattle.report_laws.proofs.Numbers as report-ways
+use Rattle.report_laws.proofs.Numbers as numbers-of-report
 use Rattle.report_laws.proofs.Rooms as rooms
 use Rattle.strip_rules.specs.Strip.{strip}
 use Rattle.strip_rules.specs.ByFields.{Kept}
@@ -25,7 +25,7 @@ use Rattle.strip_rules.specs.Terms.{keptFields, removedFields}
 use Rattle.strip_rules.proofs.Examples as strip-opened
 use Rattle.strip_laws.proofs.StripTheorems as strip-laws
 use Rattle.strip_laws.proofs.ByFields as strip-fields
-use Rattle.strip_laws.proofs.Numbers as strip-ways
+use Rattle.strip_laws.proofs.Numbers as numbers-of-strip
 use Rattle.arc_rules.specs.Chain.{outcome, built, failed, validFor, passes, oldestPass}
 use Rattle.arc_rules.specs.declared.Judged.{Judged}
 use Rattle.arc_rules.specs.Terms.{Known as KnownFields}
@@ -33,7 +33,7 @@ use Rattle.arc_rules.specs.Accepted.{kindOf, isArc, Accepted}
 use Rattle.arc_rules.specs.Reasons.{unread, repeats, firstUnread, firstRepeating, FirstAt, highestInstance, emptyPlace, lastFails, otherValue}
 use Rattle.arc_rules.proofs.Unfolding as arc-opened
 use Rattle.arc_rules.proofs.ReasonExamples as reason-opened
-use Rattle.arc_laws.proofs.Numbers as judge-ways
+use Rattle.arc_laws.proofs.Numbers as numbers-of-judge
 use Rattle.arc_laws.proofs.BuiltExactly as judge-laws
 use Rattle.arc_laws.proofs.ReasonsExactly as reason-laws
 use Rattle.promises.specs.Exactly.{Exactly}
@@ -54,7 +54,7 @@ pub report-told : (body old : List ℕ) → length body ≤ byteLimit → length
           };
       left = textOf (reading body) ++ drop (length (textOf (reading body))) old;
     }
-report-told body old l r = rw (report-ways.when-told body (length old) l r)
+report-told body old l r = rw (numbers-of-report.when-told body (length old) l r)
 
 -- so the results of a well-formed field are its lines but for those that are ignored, and how many these are
 pub report-results : (body i : List ℕ) (rs : List Result) (old : List ℕ) → length body ≤ byteLimit → reading body ≡ results i rs
@@ -64,7 +64,7 @@ pub report-results : (body i : List ℕ) (rs : List Result) (old : List ℕ) →
       answer = record { number = 0; place = 0; written = length (idLine i ++ lines rs); ignored = ignoredOf rs };
       left = (idLine i ++ lines rs) ++ drop (length (idLine i ++ lines rs)) old;
     }
-report-results body i rs old l e r = rw (report-ways.when-told body (length old) l (rw e r), e)
+report-results body i rs old l e r = rw (numbers-of-report.when-told body (length old) l (rw e r), e)
 
 results-example :
     reports (bytes "a; spf=pass; dkim/2=pass") (bytes ".....................")
@@ -113,7 +113,7 @@ module _ (block list old : List ℕ) (z : strips block list old .answer .number 
   pub strip-counts : (strips block list old .answer .kept ≡ length (bytesOf (keptFields block list)))
       × ((strips block list old .answer .removed ≡ length (bytesOf (removedFields block list)))
       × (strips block list old .answer .fields ≡ length (removedFields block list)))
-  strip-counts = let w = strip-ways.zero-when block list (length old) z in let e = strip-ways.when-zero block list (length old) (w .0) (w .1) in (rw e, (rw e, rw e))
+  strip-counts = let w = numbers-of-strip.zero-when block list (length old) z in let e = numbers-of-strip.when-zero block list (length old) (w .0) (w .1) in (rw e, (rw e, rw e))
 
   -- 02, ticket [14], its last sentence: stripping the stripped block with the same list, and room for it, gives the same bytes and removes nothing
   pub strip-twice : (room : ℕ) → strips block list old .answer .kept ≤ room
@@ -185,7 +185,7 @@ pub judge-status : (block verdicts : List ℕ) (n : ℕ) → KnownFields block �
       status = cond (passes verdicts) 1 2;
       oldest = cond (passes verdicts) (oldestPass verdicts) 0;
     }
-judge-status block verdicts n k o v = rw (judge-ways.when-built block verdicts n k o v)
+judge-status block verdicts n k o v = rw (numbers-of-judge.when-built block verdicts n k o v)
 
 -- the status of one set is pass exactly where its seal and its signature are good
 status-example :
@@ -205,7 +205,7 @@ failedFor r f = record { number = 0; place = 0; outcome = 1; reason = r; field =
 -- whatever the reason is, the whole answer
 pub judge-failed : (block verdicts : List ℕ) (r f : ℕ) → KnownFields block → outcome (fields block .items) ≡ failed r f
     → judges block verdicts ≡ failedFor r f
-judge-failed block verdicts r f k o = rw (judge-ways.when-fails block verdicts r f k o)
+judge-failed block verdicts r f k o = rw (numbers-of-judge.when-fails block verdicts r f k o)
 
 -- Failed for the first reason that applies: each exactly where it applies (`Reasons.antt` of `arc_rules`) and none before it does
 module _ (block verdicts : List ℕ) (k : KnownFields block) where

@@ -26,9 +26,7 @@ use Rattle.write_laws.proofs.WriteTheorems as written
 use Rattle.promises.specs.Exactly.{Exactly}
 use Rattle.promises.specs.Calls.{reports, writes}
 
--- ==== Identifier, reason and a mailbox's local part are written bare where the grammar lets that text stand bare and as a quoted string
-
--- otherwise
+-- ==== Identifier, reason and a mailbox's local part .. bare where the grammar lets that text stand bare and as a quoted string otherwise
 
 -- a text stands bare exactly where, written bare, it reads back as itself in its place, from just its own bytes: whatever follows that may
 -- follow a value, the end or one of space, tab, CR, "(" or ";" (`Delimited`)
@@ -117,9 +115,7 @@ round-trip-example =
 pub body-reports : (lines : List ℕ) → HasBody lines → Reports (bodyFor lines) lines
 body-reports = written.body-reports
 
--- ==== Its place is the first line, from 1, up to which the lines can begin no such report .. or, where they only stop too early, one more
-
--- than their count
+-- ==== Its place is the first line, from 1, up to which the lines can begin no such report .., or .. one more than their count
 
 -- there is only one place that this rule allows; that it is the one answered is `write-place-11` in Demand1
 pub placed-once : (lines : List ℕ) (p q : ℕ) → Placed lines p → Placed lines q → p ≡ q

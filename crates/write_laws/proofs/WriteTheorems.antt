@@ -94,10 +94,9 @@ id-alone = refused-none (bytes "id\ta\n") 0 refl
 id-alone-refused : (room : ℕ) → compose (bytes "id\ta\n") room .number ≡ 11
 id-alone-refused room = none-refused (bytes "id\ta\n") room id-alone
 
--- ==== Its place is the first line, from 1, up to which the lines can begin no such report (a line without LF can't), or, where they only
+-- ==== Its place is the first line, from 1, up to which the lines can begin no such report
 
--- stop too early, one more than their count
-
+-- a line without LF can begin none; where the lines only stop too early, the place is one more than their count
 pub placed : (src : List ℕ) (room : ℕ) → compose src room .number ≡ 11 → Placed src (compose src room .place)
 placed src room e =
     elim (answered src room) [
