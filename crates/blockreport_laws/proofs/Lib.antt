@@ -5,5 +5,4 @@ pub mod WithIdentifiers
 pub mod Sizes
 pub mod Limits
 pub mod RepeatedEntries
-pub mod SevenIsUnreadable
 pub mod Rooms

@@ -29,7 +29,7 @@ use Rattle.ownlist_rules.proofs.Unfolding.{opened}
 use Rattle.ownlist_laws.proofs.OwnLists as lists
 use Rattle.ownlist_laws.proofs.EntriesInUtf8 as entries
 use Rattle.report_rules.proofs.Unfolding as body-opened
-use Rattle.blockreport_laws.proofs.SevenIsUnreadable.{seven-when}
+use Rattle.report_laws.proofs.SevenIsUnreadable.{seven-when}
 use Rattle.promises.specs.Exactly.{Exactly}
 use Rattle.promises.specs.Calls.{reports}
 use Rattle.promises.proofs.Demand1.{report-0-7-8-9}

@@ -9,6 +9,7 @@ pub mod Demand3
 pub mod Weights
 pub mod Sizes
 pub mod AnswersByCase
+pub mod SevenIsUnreadable
 pub mod Numbers
 pub mod Rooms
 pub mod Counts
