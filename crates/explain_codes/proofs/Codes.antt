@@ -8,8 +8,8 @@ use lib.Dec.{leb, eqb}
 use lib.ListN.{getD}
 use borrow.Author.Tests.{le-leb, lt-leb, eq-eqb, ne-eqb}
 use Rattle.base_sequences.proofs.Booleans.{and-left, and-right}
-use Rattle.write_rules.specs.Entries.{isHex, hexValue}
-use Rattle.write_laws.proofs.HexDigits.{hexOr, hex-small, hex-not}
+use Rattle.write_rules.specs.Entries.{isHex, hexValue, hexOr}
+use Rattle.write_laws.proofs.HexDigits.{hex-small, hex-not}
 use Rattle.explain_rules.specs.Texts.{isCode, codeByte, codeMore}
 use Rattle.explain_rules.proofs.Texts.{byte-code, more-code, byte-itself, more-itself}
 

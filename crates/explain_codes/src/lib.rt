@@ -6,7 +6,7 @@
 ghost use mathlib.Core.Path.{_≡_};
 ghost use lib.ListN.{drop};
 ghost use Rattle.explain_rules.specs.Texts.{isCode, codeByte, codeMore};
-ghost use Rattle.write_laws.proofs.HexDigits.{hexOr};
+ghost use Rattle.write_rules.specs.Entries.{hexOr};
 
 // The number of an upper-case hex digit; 16 for any other byte.
 fn hex(b: u8) -> u8

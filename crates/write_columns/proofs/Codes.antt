@@ -18,13 +18,13 @@ use Rattle.base_readers.proofs.Loops.{many-on, many-off, turn-fits, turn-less}
 use Rattle.base_readers.proofs.Repeats.{several-none, several-again, several-total}
 use lib.Seq.{drop-drop}
 use Rattle.write_laws.proofs.Coded.{coded-byte-within}
-use Rattle.write_laws.proofs.HexDigits.{hexOr, hex-not, hex-yes}
+use Rattle.write_laws.proofs.HexDigits.{hex-not, hex-yes}
 use Rattle.base_readers.specs.Parsers.{Got, nothing, got, when, byte, several}
 use Rattle.base_readers.proofs.Sequencing.{bind-none, bind-stuck, bind-got, byte-is, byte-not, when-is, when-not, give-is, either-first, either-second}
 use Rattle.lexis_rules.specs.declared.Class.the-variants.{Visible}
 use Rattle.lexis_rules.specs.Bytes.{inClass}
 use Rattle.report_rules.specs.Report.{plain}
-use Rattle.write_rules.specs.Entries.{single, isHex, hexValue, escaped}
+use Rattle.write_rules.specs.Entries.{single, isHex, hexValue, hexOr, escaped}
 use Rattle.write_columns.specs.declared.coded.Code.{Code}
 use Rattle.write_columns.specs.Internal.{codedByte, codeSize, codeValue, codeAt, textOf}
 

@@ -12,8 +12,7 @@ ghost use mathlib.Core.Path.{_≡_};
 ghost use lib.ListN.{drop};
 ghost use Rattle.base_readers.specs.Readers.{run};
 ghost use Rattle.report_rules.specs.Report.{plain};
-ghost use Rattle.write_rules.specs.Entries.{each, whole};
-ghost use Rattle.write_laws.proofs.HexDigits.{hexOr};
+ghost use Rattle.write_rules.specs.Entries.{each, whole, hexOr};
 ghost use Rattle.write_columns.specs.Internal.{codeAt, textOf, inTest, textAt, tailAt, spells};
 
 // Whether a byte stands for itself in a text.

@@ -7,11 +7,7 @@ use lib.Dec.{leb}
 use borrow.Author.Tests.{le-leb, lt-leb, leb-true}
 use Rattle.base_sequences.proofs.Booleans.{and-left, and-right, and-none}
 use Rattle.base_readers.specs.Texts.{within}
-use Rattle.write_rules.specs.Entries.{isHex, hexValue}
-
--- 16 where there is none: what private functions return. No public contract cites it
-unfoldable pub hexOr : ℕ → ℕ
-hexOr b = cond (isHex b) (hexValue b) 16
+use Rattle.write_rules.specs.Entries.{isHex, hexValue, hexOr}
 
 pub hex-below : (b : ℕ) → b < 48 → 16 ≡ hexOr b
 unfolding hexOr isHex within

@@ -10,7 +10,7 @@ use Rattle.base_readers.specs.Texts.{bytes}
 use Rattle.base_readers.proofs.Cases.{case, Says}
 use Rattle.lexis_rules.proofs.ClassExamples.{range, members, figures}
 use Rattle.result_rules.specs.Results.{Mailbox}
-use Rattle.write_rules.specs.Entries.{Entry, identified, unstated, judged, reasoned, shown, lineOf, isHex, hexValue}
+use Rattle.write_rules.specs.Entries.{Entry, identified, unstated, judged, reasoned, shown, lineOf, isHex, hexValue, hexOr}
 use Rattle.write_rules.specs.Compose.{entries, Answer, refusal, sized, answer, compose}
 use Rattle.write_rules.specs.Answers.{answerOf, leaves}
 use Rattle.write_rules.specs.Promise.{linesWithFeeds}
@@ -112,6 +112,11 @@ hex-digits = refl
 hex-values : map hexValue (figures ++ bytes "ABCDEF") ≡ range 0 15
 unfolding opened
 hex-values = refl
+
+-- what a program is told: the same, and 16 of the bytes next to them
+hex-or-16 : map hexOr (bytes "/019:@AFGaf" ++ (0 ∷ 255 ∷ [])) ≡ 16 ∷ 0 ∷ 1 ∷ 9 ∷ 16 ∷ 16 ∷ 10 ∷ 15 ∷ 16 ∷ 16 ∷ 16 ∷ 16 ∷ 16 ∷ []
+unfolding opened
+hex-or-16 = refl
 
 -- the text as the reason of a result
 abbrev reason : List ℕ → Answer

@@ -8,7 +8,7 @@ use Rattle.write_rules.specs.Promise.{linesWithFeeds}
 
 unfoldable pub opened : Unit {0}
 unfolding body.opened either entries.lineOf entries.each entries.whole entries.quotable entries.isText entries.isKeyword entries.localOf
-    entries.domainOf entries.stands entries.single entries.literal entries.isHex entries.hexValue entries.escaped entries.coded entries.kindOf
+    entries.domainOf entries.stands entries.single entries.literal entries.isHex entries.hexValue entries.hexOr entries.escaped entries.coded entries.kindOf
     entries.kindLetter entries.idEntry entries.noneEntry entries.methodEntry entries.reasonEntry entries.allowed entries.propertyEntry entries.entry
     bodies.guarded bodies.quote bodies.bareOr bodies.isBareLocal bodies.pvalue bodies.piece bodies.bodyOf goes final steps step walked sized answer
     compose linesWithFeeds

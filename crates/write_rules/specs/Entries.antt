@@ -100,6 +100,10 @@ isHex x = within (code "0") (code "9") x || within (code "A") (code "F") x
 unfoldable pub hexValue : ℕ → ℕ
 hexValue x = cond (leb x (code "9")) (x - code "0") (x - code "A" + 10)
 
+-- what a program is told that asks for it: 16 for every other byte
+unfoldable pub hexOr : ℕ → ℕ
+hexOr x = cond (isHex x) (hexValue x) 16
+
 -- 01, The report: bytes outside 33 to 126 and the percent sign become % and two upper-case hex digits; no other byte does
 unfoldable pub escaped : Parser ℕ
 escaped = do
