@@ -23,31 +23,11 @@ use Rattle.punycode_laws.proofs.Spelling.{spelled-plain, spelled-failed, spelle
 use Rattle.punycode_laws.proofs.Absent.{dotless-spelling, spelled-lacks}
 use Rattle.punycode_laws.proofs.Utf8ButForCase.{points-utf8s, utf8s-points, points-back}
 use Rattle.identifier_rules.specs.Identifier.{sameIdentifier}
+use Rattle.identifier_rules.specs.Terms.{Decodes, Stands, SameLabel, standing, decoding, first, second, SameLabels, end, pair}
 use Rattle.identifier_rules.proofs.Unfolding.{opened}
 use Rattle.identifier_laws.proofs.Parts.{lower-dot}
 
 -- ==== two labels
-
--- a label that starts with xn--, in either case, and decodes to these code points by Punycode
-abbrev pub Decodes : List ℕ → List ℕ → Type 0
-Decodes l u = (prefixed l ≡ true) × (decoded (drop 4 l) ≡ some u)
-
--- any other: it starts with something else, or doesn't decode, or decodes to a surrogate or to a number above 10FFFF hex
-abbrev pub Stands : List ℕ → Type 0
-Stands l = prefixed l ≡ true → decoded (drop 4 l) ≡ none
-
--- labels that are the same: both are compared as they stand, but for ASCII case; or both decode, to the same code points but for ASCII case;
--- or one does, and the other is those code points in UTF-8, but for ASCII case
-pub data SameLabel (l m : List ℕ) : Type 0 where
-  standing : Stands l → Stands m → alike l m ≡ true → SameLabel l m
-  decoding : (u v : List ℕ) → Decodes l u → Decodes m v → map lower u ≡ map lower v → SameLabel l m
-  first : (u v : List ℕ) → Decodes l u → Stands m → m ≡ utf8s v → map lower u ≡ map lower v → SameLabel l m
-  second : (u v : List ℕ) → Stands l → l ≡ utf8s u → Decodes m v → map lower u ≡ map lower v → SameLabel l m
-
--- as many labels, and each pair the same
-pub data SameLabels : List (List ℕ) → List (List ℕ) → Type 0 where
-  end : SameLabels [] []
-  pair : {l m : List ℕ} {ls ms : List (List ℕ)} → SameLabel l m → SameLabels ls ms → SameLabels (l ∷ ls) (m ∷ ms)
 
 -- every label is one of the two
 data Kind (l : List ℕ) : Type 0 where

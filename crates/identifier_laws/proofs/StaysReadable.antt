@@ -4,7 +4,7 @@ use Prim.Native.Nat.{ℕ, zero, suc, _≤_, _<_}
 use native.Mathlib.Omega.{arith}
 use mathlib.Core.Path.{_≡_, refl, sym, ap, _∙_}
 use mathlib.Core.Bool.{Bool, true, false, not}
-use mathlib.Core.List.{List, [], _∷_, _++_}
+use mathlib.Core.List.{List, [], _∷_}
 use lib.Dec.{eqb, leb, ltb}
 use lib.ListN.{getD, take, drop}
 use borrow.Author.Tests.{ltb-true, le-leb, lt-leb, lt-ltb, not-true}
@@ -15,25 +15,16 @@ use Rattle.base_readers.specs.Parsers.{Got, nothing, got, Parser, _>>=_, _>>_, 
 use Rattle.base_readers.specs.Locality.{Follows}
 use Rattle.base_readers.proofs.Readers.{run-more}
 use Rattle.base_readers.proofs.Sequencing.{no-got, bind-got, bind-inv, ahead-inv, skipping-is, text-inv}
-use Rattle.base_readers.proofs.Texts.{all, one-in}
+use Rattle.base_readers.proofs.Texts.{one-in}
 use Rattle.lexis_rules.specs.declared.Class.the-variants.{Token, Delimiter}
 use Rattle.lexis_rules.specs.Bytes.{inClass}
 use Rattle.lexis_rules.specs.Pieces.{space, token, value}
 use Rattle.lexis_rules.specs.Words.{valueText, skip}
+use Rattle.punycode_rules.specs.Punycode.{basic}
 use Rattle.punycode_laws.proofs.Digits.{within-inv}
 use Rattle.identifier_rules.specs.Identifier.{identifierByte, identifierValue, identifier}
+use Rattle.identifier_rules.specs.Terms.{plainIdentifier}
 use Rattle.identifier_rules.proofs.Unfolding.{opened}
-
--- ==== document 01's rule
-
--- 01, Identifier and header version: Space, then a value. It is readable when that succeeds and the next thing is the end or one of space, tab,
--- CR, "(" or ";"
-unfoldable pub plainIdentifier : Parser (List ℕ)
-plainIdentifier = do
-  skip
-  v ← text value
-  ahead (inClass Delimiter)
-  give (valueText v)
 
 -- ==== bytes
 
@@ -56,12 +47,12 @@ unfolding identifierByte
 identifier-byte-low x h = rw (lt-leb 128 x h) (or-none (inClass Token x))
 
 -- and no other token holds one of these: every other is read by `token`
-pub token-all-low : (xs : List ℕ) → all (λ b. ltb b 128) (take (token xs) xs) ≡ true
-unfolding run
-token-all-low [] = refl
-token-all-low (x ∷ xs) = go (inClass Token x) refl (token-all-low xs)
+pub token-basic : (xs : List ℕ) → basic (take (token xs) xs) ≡ true
+unfolding run basic
+token-basic [] = refl
+token-basic (x ∷ xs) = go (inClass Token x) refl (token-basic xs)
   where
-    go : (t : Bool) → inClass Token x ≡ t → all (λ b. ltb b 128) (take (token xs) xs) ≡ true → all (λ b. ltb b 128) (take (token (x ∷ xs)) (x ∷ xs)) ≡ true
+    go : (t : Bool) → inClass Token x ≡ t → basic (take (token xs) xs) ≡ true → basic (take (token (x ∷ xs)) (x ∷ xs)) ≡ true
     go true e ih = rw (run, e, lt-ltb x 128 (token-low x e)) ih
     go false e ih = rw (run, e)
 
@@ -128,27 +119,25 @@ plain-nothing xs e = go (plainIdentifier xs) refl
 
 -- ==== and without bytes from 128 up nothing else is read
 
-abbrev Ascii : List ℕ → Type 0
-Ascii xs = all (λ b. ltb b 128) xs ≡ true
-
-ascii-drop : (n : ℕ) (xs : List ℕ) → Ascii xs → Ascii (drop n xs)
+ascii-drop : (n : ℕ) (xs : List ℕ) → basic xs ≡ true → basic (drop n xs) ≡ true
+unfolding basic
 ascii-drop zero xs h = h
 ascii-drop (suc n) [] h = refl
-ascii-drop (suc n) (x ∷ xs) h = ascii-drop n xs (and-right (ltb x 128) (all (λ b. ltb b 128) xs) h)
+ascii-drop (suc n) (x ∷ xs) h = ascii-drop n xs (and-right (ltb x 128) (basic xs) h)
 
-ascii-run : (xs : List ℕ) → Ascii xs → run identifierByte xs ≡ run (inClass Token) xs
-unfolding run
+ascii-run : (xs : List ℕ) → basic xs ≡ true → run identifierByte xs ≡ run (inClass Token) xs
+unfolding run basic
 ascii-run [] h = refl
 ascii-run (x ∷ xs) h =
-    let l = ltb-true x 128 (and-left (ltb x 128) (all (λ b. ltb b 128) xs) h) in
-    go (inClass Token x) refl (identifier-byte-low x l) (ascii-run xs (and-right (ltb x 128) (all (λ b. ltb b 128) xs) h))
+    let l = ltb-true x 128 (and-left (ltb x 128) (basic xs) h) in
+    go (inClass Token x) refl (identifier-byte-low x l) (ascii-run xs (and-right (ltb x 128) (basic xs) h))
   where
     go : (t : Bool) → inClass Token x ≡ t → identifierByte x ≡ inClass Token x → run identifierByte xs ≡ run (inClass Token) xs
         → run identifierByte (x ∷ xs) ≡ run (inClass Token) (x ∷ xs)
     go true e s ih = run-more identifierByte x xs (s ∙ e) ∙ (ap suc ih ∙ sym (run-more (inClass Token) x xs e))
     go false e s ih = let g : identifierByte x ≡ false = s ∙ e in rw (run, g, e)
 
-ascii-value : (xs : List ℕ) → Ascii xs → identifierValue xs ≡ value xs
+ascii-value : (xs : List ℕ) → basic xs ≡ true → identifierValue xs ≡ value xs
 unfolding choose
 ascii-value xs h = go (eqb (getD xs 0 0) 34) refl
   where
@@ -156,7 +145,7 @@ ascii-value xs h = go (eqb (getD xs 0 0) 34) refl
     go true e = rw (choose, e)
     go false e = rw (choose, e) (ascii-run xs h)
 
-pub identifier-ascii : (xs : List ℕ) → all (λ b. ltb b 128) xs ≡ true → identifier xs ≡ plainIdentifier xs
+pub identifier-ascii : (xs : List ℕ) → basic xs ≡ true → identifier xs ≡ plainIdentifier xs
 unfolding plainIdentifier identifier _>>=_
 identifier-ascii xs h =
     let s : skip xs ≡ got tt (space xs) = skipping-is space xs (space xs) refl in
@@ -164,20 +153,14 @@ identifier-ascii xs h =
     rw (_>>=_, s, t)
 
 stays-instance : identifier (bytes " mx.example; none") ≡ got (bytes "mx.example") 11
-unfolding opened plainIdentifier
+unfolding opened
 stays-instance = identifier-stays (bytes " mx.example; none") (bytes "mx.example") 11 refl
 
 -- and more is read: bücher was no identifier
 more-read : (plainIdentifier (98 ∷ 195 ∷ 188 ∷ bytes "cher;") ≡ nothing) × (identifier (98 ∷ 195 ∷ 188 ∷ bytes "cher;") ≡ got (98 ∷ 195 ∷ 188 ∷ bytes "cher") 7)
-unfolding opened plainIdentifier
+unfolding opened
 more-read = (refl, refl)
 
 ascii-instance : plainIdentifier (bytes " (c) \"a b\" rubbish") ≡ got (bytes "a b") 10
 unfolding opened
 ascii-instance = sym (identifier-ascii (bytes " (c) \"a b\" rubbish") refl)
-
--- document 01's rule on both sides of what is new: bytes from 128 up stand in a quoted string and in a comment, and in no token
-plain-high :
-    (plainIdentifier (bytes "(" ++ (252 ∷ bytes ")\"") ++ (252 ∷ bytes "\";")) ≡ got (252 ∷ []) 6) × (plainIdentifier (bytes "a" ++ (252 ∷ bytes ";")) ≡ nothing)
-unfolding opened plainIdentifier
-plain-high = (refl, refl)

@@ -8,9 +8,10 @@ use Rattle.lexis_rules.specs.Words.{quotedText, valueText, counted, readDigits}
 use Rattle.punycode_rules.proofs.Unfolding as spellings
 use Rattle.identifier_rules.specs.Identifier.{identifierByte, identifier, sameIdentifier}
 use Rattle.identifier_rules.specs.Version.{stated, headerVersion}
+use Rattle.identifier_rules.specs.Terms.{plainIdentifier}
 
 unfoldable pub opened : Unit {0}
 unfolding within oneOf same follows run many choose between passing lasts after _>>=_ give when ahead skipping text pass optional inClass letter
     lower alike pair fold item comment leading decimal quotedText valueText counted readDigits spellings.opened identifierByte identifier
-    sameIdentifier stated headerVersion
+    sameIdentifier stated headerVersion plainIdentifier
 opened = tt

@@ -1,2 +1,3 @@
 pub mod Identifier
 pub mod Version
+pub mod Terms

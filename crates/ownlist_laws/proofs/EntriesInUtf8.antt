@@ -4,9 +4,9 @@
 use Prim.Native.Nat.{ℕ, zero, suc, _+_, _≤_, _<_}
 use native.Mathlib.Omega.{arith}
 use mathlib.Core.Path.{_≡_, refl, sym, ap, _∙_}
-use mathlib.Core.Bool.{Bool, true, false, cond, _&&_, _||_}
+use mathlib.Core.Bool.{Bool, true, false, cond, _&&_}
 use mathlib.Core.List.{List, [], _∷_, _++_, map, append-assoc}
-use lib.Dec.{leb, lit≤}
+use lib.Dec.{lit≤}
 use lib.ListN.{length, getD, take, drop, take-append-drop, length-append, length-map}
 use lib.Seq.{length-take-le, take-take, take-append-seam, drop-append-seam, getD-append-seam, drop-drop}
 use borrow.Author.Tests.{le-leb, lt-leb}
@@ -15,7 +15,6 @@ use Rattle.base_readers.specs.Texts.{bytes}
 use Rattle.base_readers.specs.Readers.{many}
 use Rattle.base_readers.specs.Walks.{item, Walked, before, walk}
 use Rattle.base_readers.specs.Lines.{lined}
-use Rattle.base_readers.proofs.Texts.{all}
 use Rattle.base_readers.proofs.Readers.{many-past, many-none, many-more}
 use Rattle.base_readers.proofs.Walks.{walk-item}
 use Rattle.lexis_rules.specs.declared.Class.the-variants.{Visible}
@@ -26,30 +25,12 @@ use Rattle.punycode_laws.proofs.Encoding.{utf8-bounds}
 use Rattle.punycode_laws.proofs.BytesTellCodePoints.{utf8-low, Form, one, two, three, four, form}
 use Rattle.ownlist_rules.specs.Utf8.{second, further, sequence}
 use Rattle.ownlist_rules.specs.OwnList.{entryLimit, longest, entryItem, entryText, entry, entryAt, ownList}
+use Rattle.ownlist_rules.specs.Terms.{Each, nil, cons, entryPoint, allEntryPoints, EntryPoints, Utf8Entries}
 use Rattle.ownlist_rules.proofs.Unfolding.{opened}
-use Rattle.ownlist_laws.proofs.Entries.{entry-fits, entry-is, entry-ends, list-five}
-use Rattle.ownlist_laws.proofs.OwnLists.{Each, nil, cons, walk-each, walk-lined, list-few}
+use Rattle.ownlist_laws.proofs.Entries.{entry-fits, entry-is, entry-ends}
+use Rattle.ownlist_laws.proofs.OwnLists.{walk-each, walk-lined, list-few}
 use Rattle.ownlist_laws.proofs.TakenIsEncoded.{taken-encoded}
 use Rattle.ownlist_laws.proofs.EncodedIsTaken.{encoded-taken}
-
--- ==== which lists
-
--- a code point that an entry may hold: 33 to 126, or a scalar value from 128 up
-unfoldable pub entryPoint : ℕ → Bool
-entryPoint x = inClass Visible x || (leb 128 x && scalar x)
-
--- the code points of an entry
-pub record EntryPoints (u : List ℕ) : Type 0 where
-  pub points : all entryPoint u ≡ true
-  pub some : 1 ≤ length (utf8s u)
-  pub short : length (utf8s u) ≤ longest
-
--- such texts in UTF-8, at most 64, each ended by LF
-pub record Utf8Entries (list : List ℕ) : Type 0 where
-  pub texts : List (List ℕ)
-  pub each : Each EntryPoints texts
-  pub few : length texts ≤ entryLimit
-  pub is : list ≡ lined (map utf8s texts)
 
 -- ==== bytes and code points
 
@@ -107,7 +88,7 @@ item-point xs n e = go (inClass Visible (getD xs 0 0)) refl
 -- a text of code points
 record Points (bs : List ℕ) : Type 0 where
   numbers : List ℕ
-  good : all entryPoint numbers ≡ true
+  good : allEntryPoints numbers ≡ true
   bytes : bs ≡ utf8s numbers
 
 no-points : Points []
@@ -151,10 +132,10 @@ entry-coded xs n e =
     record { numbers = w .numbers; good = record { points = w .good; some = rw l (k .0); short = rw l (k .1) }; bytes = b }
 
 -- the code points of all entries
-record Texts (es : List (List ℕ)) : Type 0 where
-  texts : List (List ℕ)
-  each : Each EntryPoints texts
-  bytes : es ≡ map utf8s texts
+pub record Texts (es : List (List ℕ)) : Type 0 where
+  pub texts : List (List ℕ)
+  pub each : Each EntryPoints texts
+  pub bytes : es ≡ map utf8s texts
 
 texts-of : {es : List (List ℕ)} → Each Coded es → Texts es
 texts-of nil = record { texts = []; each = nil; bytes = refl }
@@ -166,14 +147,21 @@ texts-of (cons {e} {es} c w) =
       bytes = ap (λ (l : List ℕ). l ∷ es) (c .bytes) ∙ ap (λ (l : List (List ℕ)). utf8s (c .numbers) ∷ l) (r .bytes);
     }
 
+-- those of a list, also of one that is refused: its entries before the first bad one
+pub list-texts : (list : List ℕ) → Texts (ownList list .items)
+list-texts list = texts-of (walk-each Coded (λ xs. Unit {0}) (λ x xs q. tt) (λ xs n q e. entry-coded xs n e) 0 0 0 list tt)
+
+pub texts-many : (list : List ℕ) → length (list-texts list .texts) ≡ length (ownList list .items)
+texts-many list = sym (ap length (list-texts list .bytes) ∙ length-map (list-texts list .texts) utf8s)
+
 -- a list that is not refused
 pub list-good-when : (list : List ℕ) → ownList list .number ≡ 0 → Utf8Entries list
 list-good-when list z =
-    let t = texts-of (walk-each Coded (λ xs. Unit {0}) (λ x xs q. tt) (λ xs n q e. entry-coded xs n e) 0 0 0 list tt) in
+    let t = list-texts list in
     record {
       texts = t .texts;
       each = t .each;
-      few = let k = list-few list in let l : length (ownList list .items) ≡ length (t .texts) = ap length (t .bytes) ∙ length-map (t .texts) utf8s in omega (arith, k, l);
+      few = let k = list-few list in let l = texts-many list in omega (arith, k, l);
       is = walk-lined 0 0 0 list z ∙ ap lined (t .bytes);
     }
 
@@ -206,10 +194,10 @@ utf8-item x r g = go (form x)
     go (three h i e) = high (omega (arith, h)) _ _ e (omega arith)
     go (four h e) = high (omega (arith, h)) _ _ e (omega arith)
 
-text-points : (u : List ℕ) → all entryPoint u ≡ true → (t : List ℕ) → entryText (utf8s u ++ (10 ∷ t)) ≡ length (utf8s u)
+text-points : (u : List ℕ) → allEntryPoints u ≡ true → (t : List ℕ) → entryText (utf8s u ++ (10 ∷ t)) ≡ length (utf8s u)
 unfolding utf8s
 text-points [] g t = many-none entryItem (10 ∷ t) (feed-item t)
-text-points (x ∷ u) g t = go (length (utf8 x)) refl (text-points u (and-right (entryPoint x) (all entryPoint u) g) t)
+text-points (x ∷ u) g t = go (length (utf8 x)) refl (text-points u (and-right (entryPoint x) (allEntryPoints u) g) t)
   where
     r : List ℕ
     r = utf8s u ++ (10 ∷ t)
@@ -218,7 +206,7 @@ text-points (x ∷ u) g t = go (length (utf8 x)) refl (text-points u (and-right 
     a = append-assoc (utf8 x) (utf8s u) (10 ∷ t)
 
     i : entryItem (utf8 x ++ r) ≡ length (utf8 x)
-    i = utf8-item x r (and-left (entryPoint x) (all entryPoint u) g)
+    i = utf8-item x r (and-left (entryPoint x) (allEntryPoints u) g)
 
     go : (n : ℕ) → length (utf8 x) ≡ n → entryText r ≡ length (utf8s u) → entryText ((utf8 x ++ utf8s u) ++ (10 ∷ t)) ≡ length (utf8 x ++ utf8s u)
     go zero e h = let k = utf8-bounds x .0 in absurd (omega (arith, k, e))
@@ -262,15 +250,6 @@ walk-points (u ∷ us) (cons g w) at count h =
 pub list-when-good : (list : List ℕ) (w : Utf8Entries list) → ownList list ≡ record { items = map utf8s (w .texts); number = 0; place = 0 }
 list-when-good list w = ap ownList (w .is) ∙ walk-points (w .texts) (w .each) 0 0 (let k = w .few in omega (arith, k))
 
--- ==== and every other list is refused
-
-pub other-list-five : (list : List ℕ) → (Utf8Entries list → ⊥) → ownList list .number ≡ 5
-other-list-five list other = go (ownList list .number) refl
-  where
-    go : (n : ℕ) → ownList list .number ≡ n → ownList list .number ≡ 5
-    go zero e = absurd (other (list-good-when list e))
-    go (suc n) e = e ∙ list-five list n e
-
 -- ==== instances
 
 -- bücher and its LF
@@ -279,15 +258,12 @@ unfolding opened
 utf8-instance = list-good-when (98 ∷ 195 ∷ 188 ∷ bytes "cher\n") refl
 
 list-instance : ownList (98 ∷ 195 ∷ 188 ∷ bytes "cher\n") ≡ record { items = (98 ∷ 195 ∷ 188 ∷ bytes "cher") ∷ []; number = 0; place = 0 }
-unfolding opened utf8s utf8 entryPoint scalar
+unfolding opened
 list-instance =
     list-when-good (98 ∷ 195 ∷ 188 ∷ bytes "cher\n")
     (record { texts = (98 ∷ 252 ∷ bytes "cher") ∷ []; each = cons (record { points = refl; some = lit≤ tt; short = lit≤ tt }) nil; few = lit≤ tt; is = refl })
 
 -- the same text in ISO 8859-1 is no UTF-8: 5
-latin-instance : Utf8Entries (98 ∷ 252 ∷ bytes "cher\n") → ⊥
+pub latin-instance : Utf8Entries (98 ∷ 252 ∷ bytes "cher\n") → ⊥
 unfolding opened
 latin-instance w = let z : _≡_ {A = ℕ} 5 0 = ap (λ (a : Walked (List ℕ)). a .number) (list-when-good (98 ∷ 252 ∷ bytes "cher\n") w) in omega (arith, z)
-
-five-instance : ownList (98 ∷ 252 ∷ bytes "cher\n") .number ≡ 5
-five-instance = other-list-five (98 ∷ 252 ∷ bytes "cher\n") latin-instance

@@ -8,5 +8,6 @@ pub mod Utf8Bytes
 pub mod EncodedIsTaken
 pub mod TakenIsEncoded
 pub mod EntriesInUtf8
+pub mod FirstBadEntry
 pub mod CallCases
 pub mod AnswersInOrder

@@ -24,15 +24,12 @@ use Rattle.ownlist_laws.proofs.Entries.{entry-fits, entry-is, entry-end
 use Rattle.ownlist_laws.proofs.EntryBytes.{text-all}
 use Rattle.identifier_rules.specs.Identifier.{sameIdentifier}
 use Rattle.ownlist_rules.specs.Listed.{among, ownIf, ownOf}
+use Rattle.ownlist_rules.specs.Terms.{Each, nil, cons}
 use Rattle.base_readers.specs.Lines.{lined, linesOf}
 use Rattle.ownlist_rules.specs.Spelled.{spelledList, amongLines, amongSpelled, ownOfSpelled}
 use Rattle.base_readers.proofs.Lines.{Feedless, none, more, lines-lined}
 
 -- ==== what holds of each entry
-
-pub data Each (P : List ℕ → Type 0) : List (List ℕ) → Type 0 where
-  nil : Each P []
-  cons : {e : List ℕ} {es : List (List ℕ)} → P e → Each P es → Each P (e ∷ es)
 
 -- what follows from the tests of an entry, and from what holds of the whole list and of whatever is left of it
 module _ (P Q : List ℕ → Type 0) (rest : (x : ℕ) (xs : List ℕ) → Q (x ∷ xs) → Q xs) (this : (xs : List ℕ) (n : ℕ) → Q xs → entry xs ≡ suc n → P (take n xs)) where
@@ -101,6 +98,13 @@ feedless-entries (cons g w) = more (g .feedless) (feedless-entries w)
 pub list-lines : (list : List ℕ) → linesOf (spelledList (ownList list .items)) ≡ map spelling (ownList list .items)
 list-lines list = lines-lined (feedless-spellings (good-entries list))
 
+-- an entry's text, its LF and what stands behind it
+pub entry-cut : (x : ℕ) (xs : List ℕ) (n : ℕ) → entry (x ∷ xs) ≡ suc n → x ∷ xs ≡ take n (x ∷ xs) ++ (10 ∷ drop n xs)
+entry-cut x xs n e =
+    let h : n < length (x ∷ xs) = omega (arith, entry-fits (x ∷ xs)) in
+    let d : drop n (x ∷ xs) ≡ 10 ∷ drop n xs = drop-cons (x ∷ xs) n 0 h ∙ ap (λ (b : ℕ). b ∷ drop n xs) (entry-ends (x ∷ xs) n e .1) in
+    sym (take-append-drop n (x ∷ xs)) ∙ ap (λ (t : List ℕ). take n (x ∷ xs) ++ t) d
+
 -- a good list is its entries, each ended by LF
 pub walk-lined : (at count k : ℕ) (xs : List ℕ) → walk entryAt at count k xs .number ≡ 0 → drop k xs ≡ lined (walk entryAt at count k xs .items)
 unfolding walk entryAt lined
@@ -109,12 +113,6 @@ walk-lined at count (suc k) [] z = refl
 walk-lined at count (suc k) (x ∷ xs) z = walk-lined (suc at) count k xs z
 walk-lined at count zero (x ∷ xs) z = go (λ k. walk-lined (suc at) (suc count) k xs) (entry (x ∷ xs)) (leb entryLimit count) refl refl
   where
-    cut : (n : ℕ) → entry (x ∷ xs) ≡ suc n → x ∷ xs ≡ take n (x ∷ xs) ++ (10 ∷ drop n xs)
-    cut n e =
-        let h : n < length (x ∷ xs) = omega (arith, entry-fits (x ∷ xs)) in
-        let d : drop n (x ∷ xs) ≡ 10 ∷ drop n xs = drop-cons (x ∷ xs) n 0 h ∙ ap (λ (b : ℕ). b ∷ drop n xs) (entry-ends (x ∷ xs) n e .1) in
-        sym (take-append-drop n (x ∷ xs)) ∙ ap (λ (t : List ℕ). take n (x ∷ xs) ++ t) d
-
     go : ((k : ℕ) → walk entryAt (suc at) (suc count) k xs .number ≡ 0 → drop k xs ≡ lined (walk entryAt (suc at) (suc count) k xs .items)) → (n : ℕ) (t : Bool)
         → entry (x ∷ xs) ≡ n → leb entryLimit count ≡ t → x ∷ xs ≡ lined (walk entryAt at count zero (x ∷ xs) .items)
     go ih zero t e l = absurd (let f : 5 ≡ 0 = rw (walk, entryAt, e) at z in omega arith)
@@ -122,7 +120,7 @@ walk-lined at count zero (x ∷ xs) z = go (λ k. walk-lined (suc at) (suc count
     go ih (suc n) false e l =
         let d : suc n - 1 ≡ n = omega arith in
         let r : drop n xs ≡ lined (walk entryAt (suc at) (suc count) n xs .items) = ih n (rw (walk, entryAt, e, l, d) at z) in
-        rw (walk, entryAt, e, l, d) (cut n e ∙ ap (λ (t : List ℕ). take n (x ∷ xs) ++ (10 ∷ t)) r)
+        rw (walk, entryAt, e, l, d) (entry-cut x xs n e ∙ ap (λ (t : List ℕ). take n (x ∷ xs) ++ (10 ∷ t)) r)
 
 -- so where it has no two hyphens in a row it is what is compared
 pub list-plain : (list : List ℕ) → ownList list .number ≡ 0 → doubleHyphen list ≡ false → spelledList (ownList list .items) ≡ list

@@ -6,7 +6,8 @@ use Rattle.ownlist_rules.specs.Utf8.{lead, second, further, sequence}
 use Rattle.ownlist_rules.specs.OwnList.{entryItem, entry, entryAt}
 use Rattle.ownlist_rules.specs.Listed.{among}
 use Rattle.ownlist_rules.specs.Spelled.{amongLines, amongSpelled}
+use Rattle.ownlist_rules.specs.Terms.{entryPoint}
 
 unfoldable pub opened : Unit {0}
-unfolding identifiers.opened walk lined linesOf lead second further sequence entryItem entry entryAt among amongLines amongSpelled
+unfolding identifiers.opened walk lined linesOf lead second further sequence entryItem entry entryAt among amongLines amongSpelled entryPoint
 opened = tt

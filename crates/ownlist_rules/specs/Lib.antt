@@ -4,3 +4,4 @@ pub mod Listed
 pub mod Spelled
 pub mod Ends
 pub mod Calls
+pub mod Terms

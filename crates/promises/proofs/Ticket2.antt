@@ -7,13 +7,12 @@ use mathlib.Core.Path.{_≡_, refl, sym, ap}
 use mathlib.Core.Bool.{true, false, _&&_}
 use mathlib.Core.List.{List, [], _∷_, _++_}
 use mathlib.Core.Option.{some}
-use lib.Dec.{ltb, lit≤}
+use lib.Dec.{lit≤}
 use lib.ListN.{take, drop}
 use Rattle.base_sequences.proofs.Booleans.{no-true}
 use Rattle.base_readers.specs.Texts.{bytes, oneOf}
 use Rattle.base_readers.specs.Parsers.{nothing, got}
 use Rattle.base_readers.specs.Walks.{Walked}
-use Rattle.base_readers.proofs.Texts.{all}
 use Rattle.lexis_rules.specs.declared.Class.the-variants.{Token}
 use Rattle.lexis_rules.specs.Bytes.{inClass, alike}
 use Rattle.lexis_rules.specs.Pieces.{token}
@@ -21,13 +20,15 @@ use Rattle.punycode_rules.specs.Punycode.{basic}
 use Rattle.punycode_rules.specs.Unicode.{utf8s}
 use Rattle.punycode_rules.specs.Labels.{decoded, prefixed, labels, anyPrefixed}
 use Rattle.identifier_rules.specs.Identifier.{identifierByte, identifierToken, identifier, sameIdentifier}
+use Rattle.identifier_rules.specs.Terms.{plainIdentifier, Stands, SameLabels}
 use Rattle.identifier_laws.proofs.Equality as identifiers
 use Rattle.identifier_laws.proofs.EqualExactly as equal
 use Rattle.identifier_laws.proofs.StaysReadable as readable
 use Rattle.ownlist_rules.specs.OwnList.{ownList}
+use Rattle.ownlist_rules.specs.Terms.{nil, cons, Utf8Entries, BadAt}
 use Rattle.ownlist_rules.proofs.Unfolding.{opened}
-use Rattle.ownlist_laws.proofs.OwnLists as lists
 use Rattle.ownlist_laws.proofs.EntriesInUtf8 as entries
+use Rattle.ownlist_laws.proofs.FirstBadEntry as bad
 use Rattle.report_rules.proofs.Unfolding as body-opened
 use Rattle.report_laws.proofs.SevenIsUnreadable.{seven-when}
 use Rattle.promises.specs.Exactly.{Exactly}
@@ -73,21 +74,21 @@ label-example =
 -- ==== so two identifiers are equal exactly when they have as many labels and each pair of them is the same
 
 -- labels are the same where both stand and are alike, or where the code points that they decode to, or are in UTF-8, are the same but for ASCII
--- case (`SameLabel` in identifier_laws/proofs/EqualExactly.antt). Where the numbers differ, or one pair isn't the same, the identifiers aren't equal
-pub identifier-exactly : (a b : List ℕ) → Exactly (sameIdentifier a b ≡ true) (equal.SameLabels (labels a) (labels b))
+-- case (`SameLabel` in identifier_rules/specs/Terms.antt). Where the numbers differ, or one pair isn't the same, the identifiers aren't equal
+pub identifier-exactly : (a b : List ℕ) → Exactly (sameIdentifier a b ≡ true) (SameLabels (labels a) (labels b))
 identifier-exactly a b = (equal.identifier-same-when a b, equal.identifier-when-same a b)
 
 -- xn--bcher-kva.example has the labels of bücher.example, and not those of bucher.example
-exactly-same : equal.SameLabels (labels (bytes "xn--bcher-kva.example")) (labels (98 ∷ 195 ∷ 188 ∷ bytes "cher.Example"))
+exactly-same : SameLabels (labels (bytes "xn--bcher-kva.example")) (labels (98 ∷ 195 ∷ 188 ∷ bytes "cher.Example"))
 exactly-same = identifier-exactly (bytes "xn--bcher-kva.example") (98 ∷ 195 ∷ 188 ∷ bytes "cher.Example") .0 label-example
 
-exactly-other : equal.SameLabels (labels (bytes "xn--bcher-kva.example")) (labels (bytes "bucher.example")) → ⊥
+exactly-other : SameLabels (labels (bytes "xn--bcher-kva.example")) (labels (bytes "bucher.example")) → ⊥
 unfolding opened
 exactly-other w = no-true (identifier-exactly (bytes "xn--bcher-kva.example") (bytes "bucher.example") .1 w)
 
 -- ==== a label that doesn't decode, or decodes to a surrogate or to a number above 10FFFF hex, is compared as it stands
 
-pub identifier-stands : (l m : List ℕ) → oneOf l (code ".") ≡ false → oneOf m (code ".") ≡ false → equal.Stands l → equal.Stands m → sameIdentifier l m ≡ alike l m
+pub identifier-stands : (l m : List ℕ) → oneOf l (code ".") ≡ false → oneOf m (code ".") ≡ false → Stands l → Stands m → sameIdentifier l m ≡ alike l m
 identifier-stands = equal.identifier-stands
 
 -- k! is no number
@@ -110,8 +111,8 @@ pub identifier-byte : (x : ℕ) → (128 ≤ x → identifierByte x ≡ true) ×
 identifier-byte x = (readable.identifier-byte-high x, readable.identifier-byte-low x)
 
 -- every other token is read by this reader
-pub other-tokens : (xs : List ℕ) → all (λ b. ltb b 128) (take (token xs) xs) ≡ true
-other-tokens = readable.token-all-low
+pub other-tokens : (xs : List ℕ) → basic (take (token xs) xs) ≡ true
+other-tokens = readable.token-basic
 
 -- bücher is one token as an identifier, and elsewhere its token is b
 token-example : (identifierToken (98 ∷ 195 ∷ 188 ∷ bytes "cher;") ≡ 7) × (token (98 ∷ 195 ∷ 188 ∷ bytes "cher;") ≡ 1)
@@ -121,33 +122,33 @@ token-example = (refl, refl)
 -- ==== so fewer bodies answer 7
 
 -- what document 01's rule read is read, with the same text
-pub identifier-stays : (body t : List ℕ) (n : ℕ) → readable.plainIdentifier body ≡ got t n → identifier body ≡ got t n
+pub identifier-stays : (body t : List ℕ) (n : ℕ) → plainIdentifier body ≡ got t n → identifier body ≡ got t n
 identifier-stays = readable.identifier-stays
 
 -- and of bodies without bytes from 128 up it reads just what that rule did
-pub identifier-ascii : (body : List ℕ) → all (λ b. ltb b 128) body ≡ true → identifier body ≡ readable.plainIdentifier body
+pub identifier-ascii : (body : List ℕ) → basic body ≡ true → identifier body ≡ plainIdentifier body
 identifier-ascii = readable.identifier-ascii
 
 -- so a body that answers 7 now answered 7 before
-pub seven-before : (body old : List ℕ) → reports body old .answer .number ≡ 7 → readable.plainIdentifier body ≡ nothing
+pub seven-before : (body old : List ℕ) → reports body old .answer .number ≡ 7 → plainIdentifier body ≡ nothing
 seven-before body old z =
     readable.plain-nothing body (seven-when body (report-0-7-8-9 body old 7 (λ q. omega (arith, q)) (λ q. omega (arith, q)) .0 z .1 .0))
 
-seven-example : readable.plainIdentifier (bytes " ; none") ≡ nothing
+seven-example : plainIdentifier (bytes " ; none") ≡ nothing
 unfolding body-opened.opened
 seven-example = seven-before (bytes " ; none") [] refl
 
 -- and some that did don't: bücher is an identifier now
-fewer-example : (readable.plainIdentifier (98 ∷ 195 ∷ 188 ∷ bytes "cher; none") ≡ nothing) × (reports (98 ∷ 195 ∷ 188 ∷ bytes "cher; none") (bytes "....................") .answer .number ≡ 0)
-unfolding body-opened.opened readable.plainIdentifier
+fewer-example : (plainIdentifier (98 ∷ 195 ∷ 188 ∷ bytes "cher; none") ≡ nothing) × (reports (98 ∷ 195 ∷ 188 ∷ bytes "cher; none") (bytes "....................") .answer .number ≡ 0)
+unfolding body-opened.opened plainIdentifier
 fewer-example = (refl, refl)
 
 -- mx.example was one, and a/x wasn't
 stays-example : identifier (bytes " mx.example; none") ≡ got (bytes "mx.example") 11
-unfolding opened readable.plainIdentifier
+unfolding opened
 stays-example = identifier-stays (bytes " mx.example; none") (bytes "mx.example") 11 refl
 
-ascii-example : readable.plainIdentifier (bytes "a/x; none") ≡ nothing
+ascii-example : plainIdentifier (bytes "a/x; none") ≡ nothing
 unfolding opened
 ascii-example = sym (identifier-ascii (bytes "a/x; none") refl)
 
@@ -155,24 +156,26 @@ ascii-example = sym (identifier-ascii (bytes "a/x; none") refl)
 
 -- a list is good exactly where it is at most 64 texts in UTF-8 of 1 to 255 bytes, each ended by LF, of code points 33 to 126 and scalar values
 -- from 128 up
-pub list-exactly : (list : List ℕ) → Exactly (ownList list .number ≡ 0) (entries.Utf8Entries list)
+pub list-exactly : (list : List ℕ) → Exactly (ownList list .number ≡ 0) (Utf8Entries list)
 list-exactly list = (entries.list-good-when list, λ w. ap (λ (a : Walked (List ℕ)). a .number) (entries.list-when-good list w))
 
-pub list-five : (list : List ℕ) → (entries.Utf8Entries list → ⊥) → ownList list .number ≡ 5
-list-five = entries.other-list-five
+-- any other is refused, with the start of its first bad entry: good ones stand before it, and there no other does, or it is the 65th
+pub list-five : (list : List ℕ) → (Utf8Entries list → ⊥) → (ownList list .number ≡ 5) × BadAt list (ownList list .place)
+list-five = bad.other-list-five
 
--- bücher in UTF-8, and in ISO 8859-1
+-- bücher in UTF-8; and in ISO 8859-1, behind a good entry
 list-example : ownList (98 ∷ 195 ∷ 188 ∷ bytes "cher\n") .number ≡ 0
-unfolding opened entries.entryPoint
+unfolding opened
 list-example =
     list-exactly (98 ∷ 195 ∷ 188 ∷ bytes "cher\n") .1
     (record {
       texts = (98 ∷ 252 ∷ bytes "cher") ∷ [];
-      each = lists.cons (record { points = refl; some = lit≤ tt; short = lit≤ tt }) lists.nil;
+      each = cons (record { points = refl; some = lit≤ tt; short = lit≤ tt }) nil;
       few = lit≤ tt;
       is = refl;
     })
 
-five-example : ownList (98 ∷ 252 ∷ bytes "cher\n") .number ≡ 5
+five-example : (ownList (bytes "mx\nb" ++ (252 ∷ bytes "cher\n")) .number ≡ 5) × BadAt (bytes "mx\nb" ++ (252 ∷ bytes "cher\n")) 3
 unfolding opened
-five-example = list-five (98 ∷ 252 ∷ bytes "cher\n") (λ w. let z : _≡_ {A = ℕ} 5 0 = list-exactly (98 ∷ 252 ∷ bytes "cher\n") .1 w in omega (arith, z))
+five-example =
+    list-five (bytes "mx\nb" ++ (252 ∷ bytes "cher\n")) (λ w. let z : _≡_ {A = ℕ} 5 0 = list-exactly (bytes "mx\nb" ++ (252 ∷ bytes "cher\n")) .1 w in omega (arith, z))
