@@ -2,10 +2,11 @@
 -- texts in UTF-8 of 1 to 255 bytes, each ended by LF, whose code points are 33 to 126 and any scalar value from 128 up. An entry's text is cut
 -- into what the recogniser takes, and that is what the encoder writes (TakenIsEncoded, EncodedIsTaken).
 use Prim.Native.Nat.{ℕ, zero, suc, _+_, _≤_, _<_}
+use native.Mathlib.Nat.{add-zero}
 use native.Mathlib.Omega.{arith}
 use mathlib.Core.Path.{_≡_, refl, sym, ap, _∙_}
 use mathlib.Core.Bool.{Bool, true, false, cond, _&&_}
-use mathlib.Core.List.{List, [], _∷_, _++_, map, append-assoc}
+use mathlib.Core.List.{List, [], _∷_, _++_, map, append-assoc, append-nil}
 use lib.Dec.{lit≤}
 use lib.ListN.{length, getD, take, drop, take-append-drop, length-append, length-map}
 use lib.Seq.{length-take-le, take-take, take-append-seam, drop-append-seam, getD-append-seam, drop-drop}
@@ -16,7 +17,7 @@ use Rattle.base_readers.specs.Readers.{many}
 use Rattle.base_readers.specs.Walks.{item, Walked, before, walk}
 use Rattle.base_readers.specs.Lines.{lined}
 use Rattle.base_readers.proofs.Readers.{many-past, many-none, many-more}
-use Rattle.base_readers.proofs.Walks.{walk-item}
+use Rattle.base_readers.proofs.Walks.{walk-item, walk-end}
 use Rattle.lexis_rules.specs.declared.Class.the-variants.{Visible}
 use Rattle.lexis_rules.specs.Bytes.{inClass}
 use Rattle.punycode_rules.specs.Unicode.{scalar, utf8, utf8s}
@@ -117,12 +118,12 @@ many-points zero (x ∷ xs) = go (λ k. many-points k xs) (entryItem (x ∷ xs))
     go ih (suc n) e = rw (many, e) (points-more x n (many entryItem n xs) xs (many-past entryItem n xs) (item-point (x ∷ xs) n e) (ih n))
 
 -- an entry's text
-record Coded (e : List ℕ) : Type 0 where
-  numbers : List ℕ
-  good : EntryPoints numbers
-  bytes : e ≡ utf8s numbers
+pub record Coded (e : List ℕ) : Type 0 where
+  pub numbers : List ℕ
+  pub good : EntryPoints numbers
+  pub bytes : e ≡ utf8s numbers
 
-entry-coded : (xs : List ℕ) (n : ℕ) → entry xs ≡ suc n → Coded (take n xs)
+pub entry-coded : (xs : List ℕ) (n : ℕ) → entry xs ≡ suc n → Coded (take n xs)
 entry-coded xs n e =
     let w = many-points 0 xs in
     let b : take n xs ≡ utf8s (w .numbers) = ap (λ (k : ℕ). take k xs) (entry-ends xs n e .0) ∙ w .bytes in
@@ -234,21 +235,40 @@ drop-line l t =
     let n : length l + 1 ≡ suc (length l) = omega arith in
     ap (λ (k : ℕ). drop k (l ++ (10 ∷ t))) (sym n) ∙ (sym (drop-drop 1 (length l) (l ++ (10 ∷ t))) ∙ ap (drop 1) (drop-append-seam l (10 ∷ t)))
 
-walk-points : (us : List (List ℕ)) → Each EntryPoints us → (at count : ℕ) → length us + count ≤ entryLimit
-    → walk entryAt at count 0 (lined (map utf8s us)) ≡ record { items = map utf8s us; number = 0; place = 0 }
+-- items in front of what a walk gives
+abbrev pub onto : List (List ℕ) → Walked (List ℕ) → Walked (List ℕ)
+onto es w = record { items = es ++ w .items; number = w .number; place = w .place }
+
+-- a walk takes good entries, and goes on behind them
+pub walk-points : (us : List (List ℕ)) → Each EntryPoints us → (rest : List ℕ) (at count : ℕ) → length us + count ≤ entryLimit
+    → walk entryAt at count 0 (lined (map utf8s us) ++ rest) ≡ onto (map utf8s us) (walk entryAt (at + length (lined (map utf8s us))) (count + length us) 0 rest)
 unfolding walk lined
-walk-points [] nil at count h = refl
-walk-points (u ∷ us) (cons g w) at count h =
-    let t = lined (map utf8s us) in
+walk-points [] nil rest at count h = rw (add-zero at, add-zero count)
+walk-points (u ∷ us) (cons g w) rest at count h =
+    let front = lined (map utf8s us) in
+    let t = front ++ rest in
     let n = suc (length (utf8s u)) in
     let l : length (utf8s u ++ (10 ∷ t)) ≡ length (utf8s u) + suc (length t) = length-append (utf8s u) (10 ∷ t) in
+    let m : length (utf8s u ++ (10 ∷ front)) ≡ length (utf8s u) + suc (length front) = length-append (utf8s u) (10 ∷ front) in
     let i = walk-item entryAt at count (utf8s u ++ (10 ∷ t)) (utf8s u) n (omega (arith, l)) (omega arith) (entry-at u g t at count (omega (arith, h))) in
     let d : drop n (utf8s u ++ (10 ∷ t)) ≡ t = drop-line (utf8s u) t in
-    i ∙ (ap (λ (k : List ℕ). before (utf8s u) (walk entryAt (at + n) (suc count) 0 k)) d ∙ ap (before (utf8s u)) (walk-points us w (at + n) (suc count) (omega (arith, h))))
+    let p : at + n + length front ≡ at + length (utf8s u ++ (10 ∷ front)) = omega (arith, m) in
+    let c : suc count + length us ≡ count + suc (length us) = omega arith in
+    ap (walk entryAt at count 0) (append-assoc (utf8s u) (10 ∷ front) rest)
+    ∙ (i
+    ∙ (ap (λ (k : List ℕ). before (utf8s u) (walk entryAt (at + n) (suc count) 0 k)) d
+    ∙ (ap (before (utf8s u)) (walk-points us w rest (at + n) (suc count) (omega (arith, h)))
+    ∙ (ap (λ (q : ℕ). before (utf8s u) (onto (map utf8s us) (walk entryAt q (suc count + length us) 0 rest))) p
+    ∙ ap (λ (q : ℕ). before (utf8s u) (onto (map utf8s us) (walk entryAt (at + length (utf8s u ++ (10 ∷ front))) q 0 rest))) c))))
 
 -- such a list is read as these texts
 pub list-when-good : (list : List ℕ) (w : Utf8Entries list) → ownList list ≡ record { items = map utf8s (w .texts); number = 0; place = 0 }
-list-when-good list w = ap ownList (w .is) ∙ walk-points (w .texts) (w .each) 0 0 (let k = w .few in omega (arith, k))
+list-when-good list w =
+    let es = map utf8s (w .texts) in
+    let n = length (lined es) in
+    ap ownList (w .is ∙ sym (append-nil (lined es)))
+    ∙ (walk-points (w .texts) (w .each) [] 0 0 (let k = w .few in omega (arith, k))
+    ∙ (ap (onto es) (walk-end entryAt (0 + n) (0 + length (w .texts))) ∙ ap (λ (l : List (List ℕ)). record { items = l; number = 0; place = 0 }) (append-nil es)))
 
 -- ==== instances
 

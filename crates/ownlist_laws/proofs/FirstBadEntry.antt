@@ -1,24 +1,25 @@
 -- 01, Answer numbers: 5, a bad own list: the start of its first bad entry. Every list that isn't good (EntriesInUtf8) answers 5, and its place is
--- where the good entries in front of it end: the walk takes each of them, and there it could take no other.
+-- where the good entries in front of it end: the walk takes each of them, and there it could take no other. There is only one such place.
 use Prim.Native.Nat.{ℕ, zero, suc, _+_, _-_, _≤_, _<_}
 use native.Mathlib.Omega.{arith}
 use mathlib.Core.Path.{_≡_, refl, sym, ap, _∙_}
 use mathlib.Core.Bool.{Bool, true, false}
-use mathlib.Core.List.{List, [], _∷_, _++_, append-assoc}
+use mathlib.Core.List.{List, [], _∷_, _++_, map, append-assoc, append-nil}
 use lib.Dec.{leb}
-use lib.ListN.{length, take, drop, length-append}
+use lib.ListN.{length, take, drop, length-append, length-drop, take-append-drop}
 use lib.Seq.{length-take-le, take-append-seam, drop-append-seam}
-use borrow.Author.Tests.{leb-true}
+use borrow.Author.Tests.{leb-true, le-leb}
 use Rattle.base_readers.specs.Texts.{bytes}
-use Rattle.base_readers.specs.Walks.{Walked, walk}
+use Rattle.base_readers.specs.Walks.{refused, Walked, walk}
 use Rattle.base_readers.specs.Lines.{lined}
+use Rattle.base_readers.proofs.Walks.{walk-stop}
 use Rattle.punycode_rules.specs.Unicode.{utf8s}
 use Rattle.ownlist_rules.specs.OwnList.{entryLimit, entry, entryAt, ownList}
 use Rattle.ownlist_rules.specs.Terms.{Utf8Entries, BadAt}
 use Rattle.ownlist_rules.proofs.Unfolding.{opened}
 use Rattle.ownlist_laws.proofs.Entries.{entry-fits, list-five}
 use Rattle.ownlist_laws.proofs.OwnLists.{entry-cut, list-few}
-use Rattle.ownlist_laws.proofs.EntriesInUtf8.{list-texts, texts-many, list-good-when, entry-points, latin-instance}
+use Rattle.ownlist_laws.proofs.EntriesInUtf8.{entry-coded, list-texts, texts-many, list-good-when, entry-points, onto, walk-points, latin-instance}
 
 -- a walk that stops: behind the entries that it took something is left, and that begins with no entry, or with one too many
 record Stops (at count : ℕ) (xs : List ℕ) (w : Walked (List ℕ)) : Type 0 where
@@ -78,13 +79,50 @@ list-bad-when list ne =
       bad = λ u x g e. let h = s .bad (length (utf8s u)) (ap entry (sym r ∙ e) ∙ entry-points u g x) in omega (arith, h, n, f);
     }
 
--- so is every list that isn't good, with 5
-pub other-list-five : (list : List ℕ) → (Utf8Entries list → ⊥) → (ownList list .number ≡ 5) × BadAt list (ownList list .place)
+-- ==== what is bad at a place is refused there
+
+at-refused : (at count : ℕ) (xs : List ℕ) → ((n : ℕ) → entry xs ≡ suc n → entryLimit ≤ count) → entryAt at count xs ≡ refused 5 at
+unfolding entryAt
+at-refused at count xs h = go (entry xs) refl
+  where
+    go : (m : ℕ) → entry xs ≡ m → entryAt at count xs ≡ refused 5 at
+    go zero e = rw (entryAt, e)
+    go (suc n) e = rw (entryAt, e, le-leb entryLimit count (h n e))
+
+entry-begins : (xs : List ℕ) (n : ℕ) → entry xs ≡ suc n → xs ≡ take n xs ++ (10 ∷ drop (suc n) xs)
+entry-begins [] n e = let f : entry [] ≤ 0 = entry-fits [] in absurd (omega (arith, f, e))
+entry-begins (x ∷ xs) n e = entry-cut x xs n e
+
+pub list-when-bad : (list : List ℕ) (p : ℕ) (w : BadAt list p) → ownList list ≡ record { items = map utf8s (w .before .texts); number = 5; place = p }
+list-when-bad list p w =
+    let us = w .before .texts in
+    let es = map utf8s us in
+    let front = lined es in
+    let rest = drop p list in
+    let h = w .there in
+    let c : list ≡ front ++ rest = sym (take-append-drop p list) ∙ ap (λ (t : List ℕ). t ++ rest) (w .before .is) in
+    let n : 0 + length front ≡ p = let l : length (take p list) ≡ p = length-take-le p list (omega (arith, h)) in let m = ap length (w .before .is) in omega (arith, l, m) in
+    let r : 0 < length rest = let d : length (drop p list) ≡ length list - p = length-drop p list in omega (arith, d, h) in
+    let s = walk-stop entryAt (0 + length front) (0 + length us) rest 5 (0 + length front) r (at-refused (0 + length front) (0 + length us) rest full) in
+    ap ownList c
+    ∙ (walk-points us (w .before .each) rest 0 0 (let k = w .before .few in omega (arith, k))
+    ∙ (ap (onto es) s ∙ (ap (λ (l : List (List ℕ)). record { items = l; number = 5; place = 0 + length front }) (append-nil es) ∙ ap (λ (q : ℕ). record { items = es; number = 5; place = q }) n)))
+  where
+    full : (n : ℕ) → entry (drop p list) ≡ suc n → entryLimit ≤ 0 + length (w .before .texts)
+    full n e =
+        let k = entry-coded (drop p list) n e in
+        let b = entry-begins (drop p list) n e ∙ ap (λ (t : List ℕ). t ++ (10 ∷ drop (suc n) (drop p list))) (k .bytes) in
+        let l = w .bad (k .numbers) (drop (suc n) (drop p list)) (k .good) b in
+        omega (arith, l)
+
+-- ==== 5 is given for every list that isn't good
+
+pub other-list-five : (list : List ℕ) → (Utf8Entries list → ⊥) → ownList list .number ≡ 5
 other-list-five list other = go (ownList list .number) refl
   where
-    go : (n : ℕ) → ownList list .number ≡ n → (ownList list .number ≡ 5) × BadAt list (ownList list .place)
+    go : (n : ℕ) → ownList list .number ≡ n → ownList list .number ≡ 5
     go zero e = absurd (other (list-good-when list e))
-    go (suc n) e = (e ∙ list-five list n e, list-bad-when list (λ z. let q : suc n ≡ zero = sym e ∙ z in omega (arith, q)))
+    go (suc n) e = e ∙ list-five list n e
 
 -- ==== instances
 
@@ -94,4 +132,4 @@ unfolding opened
 bad-instance = list-bad-when (bytes "mx\nb" ++ (252 ∷ bytes "cher\n")) (λ z. let q : _≡_ {A = ℕ} 5 0 = z in omega (arith, q))
 
 five-instance : ownList (98 ∷ 252 ∷ bytes "cher\n") .number ≡ 5
-five-instance = other-list-five (98 ∷ 252 ∷ bytes "cher\n") latin-instance .0
+five-instance = other-list-five (98 ∷ 252 ∷ bytes "cher\n") latin-instance

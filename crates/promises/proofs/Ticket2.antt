@@ -3,7 +3,7 @@
 use Prim.Native.Char.{code}
 use Prim.Native.Nat.{ℕ, _≤_, _<_}
 use native.Mathlib.Omega.{arith}
-use mathlib.Core.Path.{_≡_, refl, sym, ap}
+use mathlib.Core.Path.{_≡_, refl, sym, ap, subst, _∙_}
 use mathlib.Core.Bool.{true, false, _&&_}
 use mathlib.Core.List.{List, [], _∷_, _++_}
 use mathlib.Core.Option.{some}
@@ -159,9 +159,15 @@ ascii-example = sym (identifier-ascii (bytes "a/x; none") refl)
 pub list-exactly : (list : List ℕ) → Exactly (ownList list .number ≡ 0) (Utf8Entries list)
 list-exactly list = (entries.list-good-when list, λ w. ap (λ (a : Walked (List ℕ)). a .number) (entries.list-when-good list w))
 
--- any other is refused, with the start of its first bad entry: good ones stand before it, and there no other does, or it is the 65th
-pub list-five : (list : List ℕ) → (Utf8Entries list → ⊥) → (ownList list .number ≡ 5) × BadAt list (ownList list .place)
-list-five = bad.other-list-five
+pub list-five : (list : List ℕ) → Exactly (ownList list .number ≡ 5) (Utf8Entries list → ⊥)
+list-five list = (λ e w. let z : _≡_ {A = ℕ} 5 0 = sym e ∙ list-exactly list .1 w in omega (arith, z), bad.other-list-five list)
+
+-- with the start of the first bad entry: good ones stand before it, and there no other does, or it is the 65th
+pub list-place-5 : (list : List ℕ) (place : ℕ) → Exactly ((ownList list .number ≡ 5) × (ownList list .place ≡ place)) (BadAt list place)
+list-place-5 list place = (
+  λ e. subst (BadAt list) (e .1) (bad.list-bad-when list (λ z. let q : _≡_ {A = ℕ} 5 0 = sym (e .0) ∙ z in omega (arith, q))),
+  λ w. (ap (λ (a : Walked (List ℕ)). a .number) (bad.list-when-bad list place w), ap (λ (a : Walked (List ℕ)). a .place) (bad.list-when-bad list place w)),
+)
 
 -- bücher in UTF-8; and in ISO 8859-1, behind a good entry
 list-example : ownList (98 ∷ 195 ∷ 188 ∷ bytes "cher\n") .number ≡ 0
@@ -175,7 +181,12 @@ list-example =
       is = refl;
     })
 
-five-example : (ownList (bytes "mx\nb" ++ (252 ∷ bytes "cher\n")) .number ≡ 5) × BadAt (bytes "mx\nb" ++ (252 ∷ bytes "cher\n")) 3
+five-example : ownList (bytes "mx\nb" ++ (252 ∷ bytes "cher\n")) .number ≡ 5
 unfolding opened
 five-example =
-    list-five (bytes "mx\nb" ++ (252 ∷ bytes "cher\n")) (λ w. let z : _≡_ {A = ℕ} 5 0 = list-exactly (bytes "mx\nb" ++ (252 ∷ bytes "cher\n")) .1 w in omega (arith, z))
+    list-five (bytes "mx\nb" ++ (252 ∷ bytes "cher\n")) .1
+    (λ w. let z : _≡_ {A = ℕ} 5 0 = list-exactly (bytes "mx\nb" ++ (252 ∷ bytes "cher\n")) .1 w in omega (arith, z))
+
+place-example : BadAt (bytes "mx\nb" ++ (252 ∷ bytes "cher\n")) 3
+unfolding opened
+place-example = list-place-5 (bytes "mx\nb" ++ (252 ∷ bytes "cher\n")) 3 .0 (refl, refl)
