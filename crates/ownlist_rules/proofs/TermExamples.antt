@@ -7,6 +7,7 @@ use mathlib.Core.Bool.{true, false}
 use mathlib.Core.List.{List, [], _∷_, _++_, map}
 use lib.Dec.{lit≤, lit<}
 use lib.ListN.{length, length-append}
+use lib.Seq.{take-append-seam}
 use Rattle.base_sequences.proofs.Booleans.{no-true}
 use Rattle.base_readers.specs.Texts.{bytes}
 use Rattle.base_readers.specs.Lines.{lined}
@@ -127,6 +128,17 @@ bad-second =
       before = a-entries;
       there = lit< tt;
       bad = λ u t w e. absurd (let h : _≡_ {A = ℕ} 1 (length (utf8s u ++ (10 ∷ t))) = ap length e in omega (arith, h, two-bytes u t w));
+    }
+
+-- a good entry behind 64 others
+bad-65th : (us : List (List ℕ)) → Each EntryPoints us → length us ≡ 64 → BadAt (lined (map utf8s us) ++ bytes "a\n") (length (lined (map utf8s us)))
+bad-65th us w l =
+    let front = lined (map utf8s us) in
+    let n : length (front ++ bytes "a\n") ≡ length front + 2 = length-append front (bytes "a\n") in
+    record {
+      before = record { texts = us; each = w; few = omega (arith, l); is = take-append-seam front (bytes "a\n") };
+      there = omega (arith, n);
+      bad = λ u t g e. l;
     }
 
 -- not where a good one starts, before it
