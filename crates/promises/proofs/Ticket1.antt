@@ -8,12 +8,13 @@ use mathlib.Core.List.{List, _∷_, _++_}
 use lib.Dec.{lit≤}
 use lib.ListN.{length, take, drop}
 use lib.Seq.{take-append-seam}
-use Rattle.base_readers.specs.Texts.{bytes}
+use Rattle.base_readers.specs.Texts.{bytes, follows}
 use Rattle.base_readers.specs.Parsers.{got}
 use Rattle.base_readers.proofs.Sequencing.{no-got}
+use Rattle.lexis_rules.specs.declared.Class.the-variants.{Delimiter}
+use Rattle.lexis_rules.specs.Bytes.{inClass}
 use Rattle.identifier_rules.specs.Identifier.{identifier}
 use Rattle.result_rules.specs.Results.{Mailbox, domain, propertyValue, reason}
-use Rattle.result_laws.proofs.Following.{Delimited}
 use Rattle.report_rules.specs.Report.{report}
 use Rattle.write_rules.specs.Entries.{identified, reasoned, whole}
 use Rattle.write_rules.specs.Bodies.{quote, pvalue, piece}
@@ -29,8 +30,8 @@ use Rattle.promises.specs.Calls.{reports, writes}
 -- ==== Identifier, reason and a mailbox's local part .. bare where the grammar lets that text stand bare and as a quoted string otherwise
 
 -- a text stands bare exactly where, written bare, it reads back as itself in its place, from just its own bytes: whatever follows that may
--- follow a value, the end or one of space, tab, CR, "(" or ";" (`Delimited`)
-module _ (t x : List ℕ) (d : Delimited x) where
+-- follow a value, the end or one of space, tab, CR, "(" or ";"
+module _ (t x : List ℕ) (d : follows (inClass Delimiter) x ≡ true) where
   pub identifier-bare : Exactly (piece (identified t) ≡ code " " ∷ t) (identifier (code " " ∷ (t ++ x)) ≡ got t (suc (length t)))
   identifier-bare = (bare.identifier-bare-when t x d, bare.identifier-when-bare t x)
 
@@ -43,7 +44,7 @@ module _ (t x : List ℕ) (d : Delimited x) where
   pub reason-quoted : (reason (bytes " reason=" ++ (t ++ x)) ≡ got t (8 + length t) → ⊥) → piece (reasoned t) ≡ bytes " reason=" ++ quote t
   reason-quoted = bare.reason-quoted t x d
 
-module _ (l d x : List ℕ) (h : whole domain d ≡ true) (f : Delimited x) where
+module _ (l d x : List ℕ) (h : whole domain d ≡ true) (f : follows (inClass Delimiter) x ≡ true) where
   pub mailbox-bare : Exactly (pvalue (record { kind = Mailbox; text = l ++ (code "@" ∷ d) }) ≡ l ++ (code "@" ∷ d))
       (propertyValue ((l ++ (code "@" ∷ d)) ++ x) ≡ got (record { kind = Mailbox; text = l ++ (code "@" ∷ d) }) (length (l ++ (code "@" ∷ d))))
   mailbox-bare = (mailboxes.mailbox-bare-when l d x h f, mailboxes.mailbox-when-bare l d x h)
