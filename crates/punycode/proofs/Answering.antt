@@ -11,11 +11,10 @@ use Rattle.base_sequences.proofs.Splices.{put-front}
 use Rattle.punycode_rules.specs.Unicode.{utf8s}
 use Rattle.punycode_rules.specs.Labels.{decoded, spelling, spellingLimit}
 use Rattle.punycode.specs.declared.Decoded.the-variants as answer
-use Rattle.punycode_decode.specs.declared.Points.{Points}
-use Rattle.punycode_decode.specs.declared.Points.the-variants.{Read, Failed, Long}
+use Rattle.punycode.specs.declared.decoding.Points.{Points}
+use Rattle.punycode.specs.declared.decoding.Points.the-variants.{Read, Failed, Long}
 use Rattle.punycode.specs.Answers.{decodeAnswer, decodeStored, spellAnswer, spellStored}
-use Rattle.punycode_decode.specs.Answers.{Tells}
-use Rattle.punycode.specs.Internal.{Spelt}
+use Rattle.punycode.specs.Internal.{Tells, Spelt}
 
 -- ==== one label behind its prefix
 

@@ -13,12 +13,11 @@ use Rattle.base_sequences.specs.Stored.{Put}
 use Rattle.base_sequences.proofs.Splices.{Left, left-start, left-step, left-done, left-byte, put-wrote}
 use Rattle.base_readers.specs.Texts.{oneOf}
 use Rattle.base_readers.specs.Readers.{run}
-use Rattle.punycode_decode.specs.declared.Points.{Points}
-use Rattle.punycode_decode.specs.declared.Points.the-variants.{Read, Failed, Long}
+use Rattle.punycode.specs.declared.decoding.Points.{Points}
+use Rattle.punycode.specs.declared.decoding.Points.the-variants.{Read, Failed, Long}
 use Rattle.punycode_rules.specs.Unicode.{scalars, utf8s}
 use Rattle.punycode_rules.specs.Labels.{decoded, prefixed, spelled, spelling, spellingLimit, inLabel}
-use Rattle.punycode.specs.Internal.{Spells, Spelt}
-use Rattle.punycode_decode.specs.Answers.{Tells}
+use Rattle.punycode.specs.Internal.{Tells, Spells, Spelt}
 use Rattle.punycode_laws.proofs.Encoding.{utf8s-bounds}
 use Rattle.punycode_laws.proofs.Spelling.{spelled-plain, spelled-failed, spelled-some, scalars-of, end-low, here-last, here-more}
 

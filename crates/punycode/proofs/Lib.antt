@@ -1,4 +1,9 @@
 pub mod SpellingInFront
+pub mod Examples
+pub mod Bounds
+pub mod Inserting
+pub mod Copying
+pub mod Reading
 pub mod Writing
 pub mod Labelling
 pub mod Answering

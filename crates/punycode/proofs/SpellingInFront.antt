@@ -14,8 +14,7 @@ use Rattle.base_readers.specs.Texts.{bytes}
 use Rattle.base_readers.proofs.Cases.{copies}
 use Rattle.punycode_rules.specs.Labels.{spelling, spellingLimit}
 use Rattle.punycode_rules.proofs.Unfolding.{opened}
-use Rattle.punycode_decode.specs.Answers.{fits}
-use Rattle.punycode.specs.Answers.{spellAnswer, spellStored}
+use Rattle.punycode.specs.Answers.{fits, spellAnswer, spellStored}
 
 module _ (t : List ℕ) where
   answer-within : fits (spelling t) ≡ true → spellAnswer t ≡ length (spelling t)

@@ -1,15 +1,19 @@
 -- 02, ticket [2]: what `decode` and `spell` answer, and what they leave in the buffer that is lent to them.
 use Prim.Native.Nat.{ℕ, _+_}
-use mathlib.Core.Bool.{true, false, cond}
+use mathlib.Core.Bool.{Bool, true, false, cond}
 use mathlib.Core.List.{List}
 use mathlib.Core.Option.{none, some}
+use lib.Dec.{leb}
 use lib.ListN.{length}
 use lib.Seq.{sets}
 use Rattle.punycode_rules.specs.Unicode.{utf8s}
 use Rattle.punycode_rules.specs.Labels.{decoded, spelling, spellingLimit}
-use Rattle.punycode_decode.specs.Answers.{fits}
 use Rattle.punycode.specs.declared.Decoded.{Decoded}
 use Rattle.punycode.specs.declared.Decoded.the-variants.{Text, Failed, Long}
+
+-- no longer than the longest spelling of a list entry
+abbrev pub fits : List ℕ → Bool
+fits t = leb (length t) spellingLimit
 
 -- the length of the code points in UTF-8, or that it doesn't decode; a label behind its prefix that is too long is not decoded
 unfoldable pub decodeAnswer : List ℕ → Decoded

@@ -1,7 +1,8 @@
 // Labels: where one ends, whether it starts with xn--, and labels written as they are compared.
 use super::Spelling;
+use super::decoding;
+use super::decoding::Points;
 use super::utf8;
-use punycode_decode::Points;
 ghost use mathlib.Core.Path.{_≡_};
 ghost use mathlib.Core.List.{[], _∷_};
 ghost use Prim.Native.Nat.{_+_, _≤_};
@@ -66,7 +67,7 @@ fn put_label(l: &[u8], out: &mut [u8], to: usize) -> usize
 {
     if is_prefixed(l) {
         let mut points = [0u32; Spelling::LONGEST];
-        let d = punycode_decode::read_label(&l[4..], &mut points);
+        let d = decoding::read_points(&l[4..], &mut points);
         match d {
             Points::Read(n) => {
                 return utf8::put_points(&points, n, out, to);

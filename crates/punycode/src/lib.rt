@@ -5,13 +5,15 @@
 // which equals that of no list entry, is not written, and the answer is 1,021.
 // `decode` does the same for what stands behind the prefix of one label. It answers the length of the code points in UTF-8, that it doesn't
 // decode, or that it is longer than 1,020 bytes.
-use punycode_decode::Points;
+use decoding::Points;
 ghost use mathlib.Core.Path.{_≡_};
 ghost use Prim.Native.Nat.{_+_};
 ghost use lib.ListN.{length};
 ghost use Rattle.punycode.specs.Answers.{decodeAnswer, decodeStored, spellAnswer, spellStored};
 
+mod decoding;
 mod labels;
+mod numbers;
 mod utf8;
 
 // A text as it is compared.
@@ -40,7 +42,7 @@ pub fn decode(label: &[u8], out: &mut [u8]) -> Decoded
         return Decoded::Long;
     }
     let mut points = [0u32; Spelling::LONGEST];
-    let d = punycode_decode::read_label(label, &mut points);
+    let d = decoding::read_points(label, &mut points);
     match d {
         Points::Read(count) => {
             let length = utf8::put_points(&points, count, out, 0);

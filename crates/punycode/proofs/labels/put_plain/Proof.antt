@@ -5,7 +5,7 @@ use Rattle.punycode.proofs.labels.put_plain.Statement.{statement}
 use Rattle.punycode.proofs.labels.put_plain.Tie as tie
 
 returns : tie.Need-returns
-returns c = search plain-over
+returns c = plain-over _ _ (c .before .before .before .args .l .now) (c .if1 .taken)
 
 put-text-requires : tie.Need-put-text-requires
 put-text-requires c κs = search needs
