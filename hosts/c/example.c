@@ -1,6 +1,6 @@
 /*
- * Strips a header block, reports what is left, judges its ARC chain, and writes a field of our
- * own that says what became of it.
+ * Strips a header block, with a log line for each field before it is removed, reports what is left,
+ * judges its ARC chain, and writes a field of our own that says what became of it.
  *
  *   cc -o example example.c $(pkg-config --cflags --libs orbendash)
  *   ./example BLOCK IDENTIFIER...
@@ -23,6 +23,7 @@
 /* One byte more than a block may have, so that a longer file is refused and not cut. */
 static uint8_t block[ORBENDASH_BYTES + 1];
 static uint8_t kept[ORBENDASH_BYTES];
+static uint8_t marks[ORBENDASH_FIELDS];
 static uint8_t report[ORBENDASH_REPORT_ROOM(ORBENDASH_BYTES)];
 static uint8_t list[ORBENDASH_LIST_BYTES];
 static uint8_t verdicts[ORBENDASH_INSTANCES];
@@ -38,6 +39,16 @@ static int is_named(const uint8_t *from, const orbendash_field_answer *field, co
     size_t length = field->name_end - field->start;
     return length == strlen(name) &&
            strncasecmp((const char *)from + field->start, name, length) == 0;
+}
+
+/* Prints the first bytes of a field that is to be removed. They are a stranger's: no control byte
+   may reach the terminal. A byte outside 32 to 126, and the backslash, is \x and two hex digits. */
+static void log_field(size_t number, const uint8_t *from, size_t length) {
+    enum { SHOWN = 60 };
+    printf("removing field %zu: ", number);
+    for (size_t i = 0; i < length && i < SHOWN; i++)
+        printf(from[i] >= 32 && from[i] < 127 && from[i] != '\\' ? "%c" : "\\x%02x", from[i]);
+    printf(length > SHOWN ? "...\n" : "\n");
 }
 
 /* Writes our own field from two report lines: an identifier from our list, which is no longer
@@ -96,16 +107,31 @@ int main(int count, char **words) {
         list[list_length++] = '\n';
     }
 
-    orbendash_strip_answer strip =
-        orbendash_strip(block, length, list, list_length, kept, sizeof kept);
+    /* First which fields go; each is logged while it is still there. The block is sound, or it
+       would have been refused: the walk gives all its fields, as many as there are marks. */
+    orbendash_mark_answer mark =
+        orbendash_mark(block, length, list, list_length, marks, sizeof marks);
+    if (mark.number != ORBENDASH_DONE)
+        return refused("mark", mark.number, mark.place);
+    size_t place = 0;
+    for (size_t number = 1; number <= mark.written; number++) {
+        orbendash_field_answer field = orbendash_next_field(block, length, place);
+        place = field.end;
+        if (marks[number - 1] == 1)
+            log_field(number, block + field.start, field.end - 2 - field.start);
+    }
+
+    /* Then the rest is copied. */
+    orbendash_copy_answer strip = orbendash_copy(block, length, list, list_length, marks,
+                                                 mark.written, kept, sizeof kept);
     if (strip.number != ORBENDASH_DONE)
-        return refused("strip", strip.number, strip.place);
+        return refused("copy", strip.number, strip.place);
     printf("stripped: %zu fields, %zu bytes removed, %zu bytes kept\n", strip.fields,
            strip.removed, strip.kept);
 
-    /* The block is sound, or it would not have been stripped: the walk gives all its fields. */
+    /* What is left of a sound block is sound: the walk gives all its fields. */
     size_t seals = 0;
-    size_t place = 0;
+    place = 0;
     for (size_t number = 1;; number++) {
         orbendash_field_answer field = orbendash_next_field(kept, strip.kept, place);
         if (!field.found)

@@ -1,10 +1,10 @@
 /*
  * Orbendash: Authentication-Results and ARC header fields for mail gateways, on x86-64 Linux.
  *
- * Six calls, each on bytes that the caller owns: strip forged fields from a header block, ask
- * whose field a body is, report one body, write one from its report, judge the ARC chain of a
- * block, and walk a block's fields. Link with liborbendash.a (pkg-config: orbendash); C99 or
- * C++. The manual page is orbendash(3).
+ * Seven calls, each on bytes that the caller owns: mark the forged fields of a header block, copy
+ * the block without them, ask whose field a body is, report one body, write one from its report,
+ * judge the ARC chain of a block, and walk a block's fields. Link with liborbendash.a (pkg-config:
+ * orbendash); C99 or C++. The manual page is orbendash(3).
  *
  * Any bytes may be handed in. Every call ends, keeps nothing, and answers with a struct by
  * value; an answer that is dropped is warned of. A header block has no empty line after it, and
@@ -103,7 +103,10 @@ enum {
     /* No well-formed body without ignored results has these lines as its report. Place: the
        first line, from 1, up to which they can begin no such report; where they only stop too
        early, one more than their count. */
-    ORBENDASH_BAD_LINES = 11
+    ORBENDASH_BAD_LINES = 11,
+    /* The marks aren't exactly the bytes that orbendash_mark writes for this block and list. Place
+       0. */
+    ORBENDASH_OTHER_MARKS = 13
 };
 
 /* What a number says, in words for a log. */
@@ -134,45 +137,70 @@ static inline const char *orbendash_text(unsigned number) {
         return "the verdicts don't fit the chain";
     case ORBENDASH_BAD_LINES:
         return "no body has that report";
+    case ORBENDASH_OTHER_MARKS:
+        return "the marks aren't those of this block and list";
     default:
         return "no answer of this library";
     }
 }
 
-/* ---- Strip ---- */
+/* ---- Strip, in two steps ---- */
 
 typedef struct {
     uint8_t number; /* 0 to 6 */
     size_t place;   /* see the numbers */
-    size_t kept;    /* bytes kept, which are the bytes written */
-    size_t removed; /* bytes removed; kept + removed is the block's length */
-    size_t fields;  /* fields removed */
-} orbendash_strip_answer;
+    size_t written; /* bytes written, one for each field of the block */
+} orbendash_mark_answer;
 
 /*
- * Copies a header block to out without the Authentication-Results fields whose identifier is on
- * our own list or can't be read.
+ * The first step, which removes nothing: writes to out a byte for each field of a header block, in
+ * order, 1 if the field goes, else 0. It goes if it is named Authentication-Results and its
+ * identifier is on our own list or can't be read. So a host can log what it is about to remove:
+ * orbendash_next_field gives the fields in the same order. An output of ORBENDASH_FIELDS bytes is
+ * always long enough.
  *
  * The list holds our identifiers, each ended by LF: at most ORBENDASH_ENTRIES, each of 1 to
- * ORBENDASH_ENTRY_BYTES bytes, which are 33 to 126 or UTF-8 from 128 up. It may be empty. An
- * output as long as the block is always long enough.
+ * ORBENDASH_ENTRY_BYTES bytes, which are 33 to 126 or UTF-8 from 128 up. It may be empty.
  *
  * Identifiers compare by their labels, which are parted by dots. A label that starts with xn--,
  * in either case, stands for the U-label that it decodes to by Punycode (RFC 3492), once; one
  * that doesn't decode, or decodes to a surrogate or to a number above 10FFFF hex, stands for
- * itself. Then ASCII case doesn't count.
- * So the entry xn--bcher-kva.example and the same with a u umlaut in UTF-8 remove the same
- * fields, whichever of the two a field has. Nothing else is made equal: no other case, no
- * normalisation.
+ * itself. Then ASCII case doesn't count. So the entry xn--bcher-kva.example and the same with a u
+ * umlaut in UTF-8 mark the same fields, whichever of the two a field has. Nothing else is made
+ * equal: no other case, no normalisation.
  *
- * It needs up to 88 KiB of stack.
+ * It needs up to 84 KiB of stack.
  *
  * The first of these that applies is the number: 1 the block is too long; 5 a bad list; 2, 3 or
  * 4 a bad block; 6 no room; 0 done.
  */
-ORBENDASH_CHECKED orbendash_strip_answer
-orbendash_strip(const uint8_t *block, size_t block_length, const uint8_t *list, size_t list_length,
-                uint8_t *out, size_t out_length);
+ORBENDASH_CHECKED orbendash_mark_answer
+orbendash_mark(const uint8_t *block, size_t block_length, const uint8_t *list, size_t list_length,
+               uint8_t *out, size_t out_length);
+
+typedef struct {
+    uint8_t number; /* 0 to 6, or 13 */
+    size_t place;   /* see the numbers */
+    size_t kept;    /* bytes kept, which are the bytes written */
+    size_t removed; /* bytes removed; kept + removed is the block's length */
+    size_t fields;  /* fields removed */
+} orbendash_copy_answer;
+
+/*
+ * The second step: copies the block to out without the fields that go; every other byte is kept, in
+ * order. The marks are the bytes that orbendash_mark wrote for this block and list, as many as it
+ * wrote. They aren't trusted: the call finds them again, and refuses any others, so that no field
+ * is removed by marks of another block or list. An output as long as the block is always long
+ * enough.
+ *
+ * It needs up to 88 KiB of stack.
+ *
+ * The first of these that applies is the number: 1 the block is too long; 5 a bad list; 2, 3 or
+ * 4 a bad block; 13 other marks; 6 no room; 0 done.
+ */
+ORBENDASH_CHECKED orbendash_copy_answer
+orbendash_copy(const uint8_t *block, size_t block_length, const uint8_t *list, size_t list_length,
+               const uint8_t *marks, size_t marks_length, uint8_t *out, size_t out_length);
 
 /* ---- Whose ---- */
 
@@ -192,10 +220,10 @@ typedef struct {
 /*
  * Says whose an Authentication-Results field is, from our own list and its body. The body runs
  * from after the field's colon to before its last CRLF; behind the identifier nothing of it is
- * read. List and comparison are those of orbendash_strip, which removes exactly the fields of
- * that name whose answer here is not ORBENDASH_ANOTHERS.
+ * read. List and comparison are those of orbendash_mark, which marks with 1 exactly the fields of
+ * that name whose answer here isn't ORBENDASH_ANOTHERS.
  *
- * It needs up to 88 KiB of stack.
+ * It needs up to 84 KiB of stack.
  *
  * The first of these that applies is the number: 1 the body is too long; 5 a bad list; 0 done.
  */

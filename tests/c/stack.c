@@ -11,8 +11,8 @@
 
 enum { STACK = 1 << 20, FILL = 0xa5, KIB = 1024 };
 
-static uint8_t text[ORBENDASH_BYTES], out[4 * ORBENDASH_BYTES], verdict;
-static size_t length;
+static uint8_t text[ORBENDASH_BYTES], out[4 * ORBENDASH_BYTES], marks[ORBENDASH_FIELDS], verdict;
+static size_t length, fields;
 static const char *const list = "xn--bcher-kva.example\nmx.example.com\n";
 
 #define DATA(s) ((const uint8_t *)(s))
@@ -21,8 +21,15 @@ static int nothing(void) {
     return 0;
 }
 
-static int strip(void) {
-    return (int)orbendash_strip(text, length, DATA(list), strlen(list), out, sizeof out).number;
+static int mark(void) {
+    return (int)orbendash_mark(text, length, DATA(list), strlen(list), marks, sizeof marks).number;
+}
+
+/* It is handed what mark wrote before. */
+static int copy(void) {
+    return (int)orbendash_copy(text, length, DATA(list), strlen(list), marks, fields, out,
+                               sizeof out)
+        .number;
 }
 
 static int whose(void) {
@@ -111,13 +118,21 @@ static void add(const char *some, int times) {
 int main(void) {
     int i;
     set("Authentication-Results: " NAME "; none\r\n");
-    try("strip", strip, 0, 88);
+    fields = 1;
+    try("mark", mark, 0, 84);
+    try("copy", copy, 0, 88);
+    add("A: b\r\n", 511);
+    fields = 512;
+    try("mark, all fields", mark, 0, 84);
+    try("copy, all fields", copy, 0, 88);
     set("Authentication-Results: \"");
     add("xn--bcher-kva.", 2000);
     add("\"; none\r\n", 1);
-    try("strip, a long name", strip, 0, 88);
+    fields = 1;
+    try("mark, a long name", mark, 0, 84);
+    try("copy, a long name", copy, 0, 88);
     set(" " NAME "; none");
-    try("whose", whose, 0, 88);
+    try("whose", whose, 0, 84);
     set(" ");
     add("(", 16);
     add(")", 16);

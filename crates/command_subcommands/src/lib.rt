@@ -12,17 +12,40 @@ use blockreport_rules::Detail;
 use command_output_rules::Made;
 use command_rules::Ending;
 use ownlist_check::Checked;
+use strip_rules::Stripped;
 ghost use mathlib.Core.Path.{_≡_};
 ghost use mathlib.Core.List.{map};
+ghost use lib.ListN.{length};
+ghost use Rattle.strip_rules.specs.Strip as stripping;
+ghost use Rattle.strip_rules.specs.Answers as stripped;
 ghost use Rattle.judgement_rules.specs.Judgement.{verdictOf};
 ghost use Rattle.command_output_rules.specs.Outputs.{verdictsRefusal, strippedBlock, reportedBlock, explainedBlock, checkedList, judgedBlock, writtenBody};
+
+// Marks the fields that go, with room for as many as there may be, and copies the rest.
+fn strip_in_steps(block: &[u8], list: &[u8], out: &mut [u8]) -> Stripped
+    ensures { λ r. ⌜ r ≡ stripped.answerOf (stripping.strip (now (block .entry)) (now (list .entry)) (length (now (out .entry)))) ⌝ }
+    ensures { λ _. ⌜ now (out .exit) ≡ stripped.leaves (stripping.strip (now (block .entry)) (now (list .entry)) (length (now (out .entry)))) (now (out .entry)) ⌝ }
+{
+    let mut marks = strip_rooms::marks();
+    let m = strip::mark(block, list, &mut marks);
+    if m.number != Number::DONE {
+        return Stripped {
+            number: m.number,
+            place: m.place,
+            kept: 0,
+            removed: 0,
+            fields: 0,
+        };
+    }
+    strip::copy(block, list, &marks[..m.written], out)
+}
 
 // Strips a block by our own list: the output is what is kept.
 pub fn strip_block(block: &[u8], list: &[u8], out: &mut [u8]) -> Made
     ensures { λ r. ⌜ r ≡ strippedBlock (now (block .entry)) (now (list .entry)) (now (out .entry)) .made ⌝ }
     ensures { λ _. ⌜ now (out .exit) ≡ strippedBlock (now (block .entry)) (now (list .entry)) (now (out .entry)) .left ⌝ }
 {
-    let a = strip::strip(block, list, out);
+    let a = strip_in_steps(block, list, out);
     let refusal = Ending::Refused {
         number: a.number,
         place: a.place,

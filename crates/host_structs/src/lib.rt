@@ -5,17 +5,26 @@ use base_answers::Number;
 use block_walk_rules::Step;
 use report_rules::Reported;
 use strip_rules::Stripped;
+use strip_steps_rules::Marked;
 use write_rules::Written;
 ghost use mathlib.Core.Path.{_≡_};
 ghost use Rattle.host_structs.specs.Faces.{nextFace};
-ghost use Rattle.host_structs.specs.Made.{strippedFace, reportedFace, writtenFace};
+ghost use Rattle.host_structs.specs.Made.{markedFace, copiedFace, reportedFace, writtenFace};
 ghost use Rattle.host_structs.specs.Version.{versionNumber};
 
 pub mod judge;
 
-// What `orbendash_strip` returns.
+// What `orbendash_mark` returns.
 #[repr(C)]
-pub struct StripFace {
+pub struct MarkFace {
+    pub number: u8,
+    pub place: usize,
+    pub written: usize,
+}
+
+// What `orbendash_copy` returns.
+#[repr(C)]
+pub struct CopyFace {
     pub number: u8,
     pub place: usize,
     pub kept: usize,
@@ -52,11 +61,22 @@ pub struct NextFace {
     pub end: usize,
 }
 
-// What `strip::strip` answered.
-pub fn strip_face(s: Stripped) -> StripFace
-    ensures { λ r. ⌜ r ≡ strippedFace s ⌝ }
+// What `strip::mark` answered.
+pub fn mark_face(m: Marked) -> MarkFace
+    ensures { λ r. ⌜ r ≡ markedFace m ⌝ }
 {
-    StripFace {
+    MarkFace {
+        number: m.number,
+        place: m.place,
+        written: m.written,
+    }
+}
+
+// What `strip::copy` answered.
+pub fn copy_face(s: Stripped) -> CopyFace
+    ensures { λ r. ⌜ r ≡ copiedFace s ⌝ }
+{
+    CopyFace {
         number: s.number,
         place: s.place,
         kept: s.kept,

@@ -1,34 +1,45 @@
 // The face for hosts: functions for C and for Rust over the library's calls, with the same answers.
 //
 // A slice is a pointer and a length. The structs that are returned, and how they are made from answers, are those of `host_structs` and `host_whose_struct`.
+use host_structs::CopyFace;
+use host_structs::MarkFace;
 use host_structs::NextFace;
 use host_structs::ReportFace;
-use host_structs::StripFace;
 use host_structs::WriteFace;
 use host_structs::judge::JudgeFace;
 use host_whose_struct::WhoseFace;
 ghost use mathlib.Core.Path.{_≡_};
 ghost use lib.ListN.{length};
-ghost use Rattle.strip_rules.specs.Strip.{strip};
-ghost use Rattle.strip_rules.specs.Answers as stripping;
+ghost use Rattle.strip_rules.specs.Answers as copying;
+ghost use Rattle.strip_steps_rules.specs.Steps.{mark, copy};
+ghost use Rattle.strip_steps_rules.specs.Answers as marking;
 ghost use Rattle.report_rules.specs.Report.{report};
 ghost use Rattle.report_rules.specs.Answers as reporting;
 ghost use Rattle.arc_rules.specs.Chain.{judge};
 ghost use Rattle.block_walk_rules.specs.Steps.{stepFrom};
 ghost use Rattle.write_rules.specs.Compose.{compose};
 ghost use Rattle.write_rules.specs.Answers as writing;
-ghost use Rattle.host_structs.specs.Faces.{stripFace, reportFace, writeFace, nextFace};
+ghost use Rattle.host_structs.specs.Faces.{markFace, copyFace, reportFace, writeFace, nextFace};
 ghost use Rattle.host_structs.specs.JudgeFaces.{judgeFace};
 ghost use Rattle.host_whose_struct.specs.Whose.{whose};
 ghost use Rattle.host_structs.specs.Version.{versionNumber};
 
-// The block without the Authentication-Results fields that speak in our own name or in none (`strip::strip`).
+// Which fields of a block go, the Authentication-Results fields that speak in our own name or in none: a byte for each field (`strip::mark`).
 #[no_mangle]
-pub extern "C" fn orbendash_strip(s: &[u8], list: &[u8], out: &mut [u8]) -> StripFace
-    ensures { λ r. ⌜ r ≡ stripFace (strip (now (s .entry)) (now (list .entry)) (length (now (out .entry)))) ⌝ }
-    ensures { λ _. ⌜ now (out .exit) ≡ stripping.leaves (strip (now (s .entry)) (now (list .entry)) (length (now (out .entry)))) (now (out .entry)) ⌝ }
+pub extern "C" fn orbendash_mark(s: &[u8], list: &[u8], out: &mut [u8]) -> MarkFace
+    ensures { λ r. ⌜ r ≡ markFace (mark (now (s .entry)) (now (list .entry)) (length (now (out .entry)))) ⌝ }
+    ensures { λ _. ⌜ now (out .exit) ≡ marking.leaves (mark (now (s .entry)) (now (list .entry)) (length (now (out .entry)))) (now (out .entry)) ⌝ }
 {
-    host_structs::strip_face(strip::strip(s, list, out))
+    host_structs::mark_face(strip::mark(s, list, out))
+}
+
+// The block without these fields, given that answer (`strip::copy`).
+#[no_mangle]
+pub extern "C" fn orbendash_copy(s: &[u8], list: &[u8], marks: &[u8], out: &mut [u8]) -> CopyFace
+    ensures { λ r. ⌜ r ≡ copyFace (copy (now (s .entry)) (now (list .entry)) (now (marks .entry)) (length (now (out .entry)))) ⌝ }
+    ensures { λ _. ⌜ now (out .exit) ≡ copying.leaves (copy (now (s .entry)) (now (list .entry)) (now (marks .entry)) (length (now (out .entry)))) (now (out .entry)) ⌝ }
+{
+    host_structs::copy_face(strip::copy(s, list, marks, out))
 }
 
 // The report of a field body (`report::report`).

@@ -1,8 +1,8 @@
-// Runs `strip::strip` on the cases of document 01's section on stripping, and writes one line for each.
+// Runs `strip::mark` and then `strip::copy` on the cases of document 01's section on stripping, and writes one line for each.
 //
 // Three arguments make a case: the file of the block, the file of the own list, and how many bytes are lent for the output. The bytes lent
 // are 170 before the call. A line has the three arguments and then what was answered:
-//   number, place, kept, removed, fields   as `strip` returned them
+//   number, place, kept, removed, fields   as `copy` returned them, given what `mark` wrote; where `mark` refuses, its number and place, and zero counts
 //   check                                  the Adler-32 sum of the kept bytes that were written (1 where there are none)
 //   changed                                how many of the lent bytes past those are no longer 170; on a refusal that is of all lent bytes
 // A file that can't be opened has `no file` on its line. At most 65,540 bytes of a block and 32,768 of a list are read, and at most 65,540 are
@@ -27,9 +27,26 @@ fn put_answer(r: Stripped, out: &[u8]) {
     io::write_all(STDOUT_FILENO, &line[..n]);
 }
 
+// Marks the fields that go, with room for as many as there may be, and copies the rest.
+fn strip_in_steps(block: &[u8], list: &[u8], out: &mut [u8]) -> Stripped {
+    let mut marks = strip_rooms::marks();
+    let m = strip::mark(block, list, &mut marks);
+    if m.number != 0 {
+        return Stripped {
+            number: m.number,
+            place: m.place,
+            kept: 0,
+            removed: 0,
+            fields: 0,
+        };
+    }
+    let n = sample_support::front(&marks, m.written);
+    strip::copy(block, list, &marks[..n], out)
+}
+
 // Strips into the lent bytes, and writes the answer and what holds of them.
 fn strip_into(block: &[u8], list: &[u8], out: &mut [u8]) {
-    let r = strip::strip(block, list, out);
+    let r = strip_in_steps(block, list, out);
     put_answer(r, out);
 }
 

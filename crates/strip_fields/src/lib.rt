@@ -1,17 +1,29 @@
-// Which fields of a block go, and those that are kept, written one after the other.
+// Which fields of a block go.
+//
+// `sift(s, own, ends, marks, stops)` goes over a block once, by our own list as it is compared, and keeps for each field a mark, 1 if it goes, else 0, and where it ends,
+// as far as there is room for these. It answers the number and place of the walk, how many fields it came by, and bytes and number of those that go.
 use base_answers::Number;
 use block::Next;
 use block::Walk;
 use ownlist_rules::Own;
-use strip_rules::Stripped;
 ghost use mathlib.Core.Path.{_≡_};
 ghost use mathlib.Core.Bool.{_&&_};
 ghost use Rattle.base_readers.specs.Texts.{bytes};
 ghost use Rattle.lexis_rules.specs.Bytes.{alike};
+ghost use Rattle.block_rules.specs.Fields.{fields};
 ghost use Rattle.ownlist_rules.specs.Ends.{cutAt};
 ghost use Rattle.ownlist_rules.specs.Spelled.{amongSpelled};
 ghost use Rattle.strip_rules.specs.Strip.{oursOrUnreadable};
-ghost use Rattle.strip_fields.specs.Sifting.{isDisowned, Sifted};
+ghost use Rattle.strip_fields.specs.Sifting.{isDisowned, Sifts};
+
+// What a walk over a block found: its number and place, how many fields there are, and of those that go the bytes and how many they are.
+pub struct Sifted {
+    pub number: u8,
+    pub place: usize,
+    pub count: usize,
+    pub removed: usize,
+    pub fields: usize,
+}
 
 fn disowns(o: Own) -> bool
     ensures { λ r. ⌜ r ≡ isDisowned o ⌝ }
@@ -31,7 +43,7 @@ fn is_disowned(own: &[u8], ends: &[usize], body: &[u8]) -> bool
 }
 
 // Whether a field with this name and this body is removed.
-pub fn is_removed(own: &[u8], ends: &[usize], name: &[u8], body: &[u8]) -> bool
+fn is_removed(own: &[u8], ends: &[usize], name: &[u8], body: &[u8]) -> bool
     ensures { λ r. ⌜ r ≡ (alike (now (name .entry)) (bytes "Authentication-Results") && oursOrUnreadable (amongSpelled (cutAt (now (own .entry)) 0 (now (ends .entry)))) (now (body .entry))) ⌝ }
 {
     if text_compare::same_text(name, b"Authentication-Results") {
@@ -40,14 +52,13 @@ pub fn is_removed(own: &[u8], ends: &[usize], name: &[u8], body: &[u8]) -> bool
     false
 }
 
-// Writes the kept fields over the front of `out`, as far as that reaches, up to the first refusal.
-pub fn put_kept(s: &[u8], own: &[u8], ends: &[usize], out: &mut [u8]) -> Stripped
-    ensures { λ r. ⌜ Sifted (now (s .entry)) (amongSpelled (cutAt (now (own .entry)) 0 (now (ends .entry)))) (now (out .entry)) (now (out .exit)) r ⌝ }
+// Goes over a block once, up to the end or the first refusal.
+pub fn sift(s: &[u8], own: &[u8], ends: &[usize], marks: &mut [u8], stops: &mut [usize]) -> Sifted
+    ensures { λ r. ⌜ Sifts (amongSpelled (cutAt (now (own .entry)) 0 (now (ends .entry)))) (fields (now (s .entry))) (now (marks .entry)) (now (stops .entry)) (now (marks .exit)) (now (stops .exit)) r ⌝ }
 {
     let fresh = Walk::fresh();
     let mut at = fresh.at;
     let mut count = fresh.count;
-    let mut kept: usize = 0;
     let mut removed: usize = 0;
     let mut fields: usize = 0;
     loop {
@@ -55,34 +66,37 @@ pub fn put_kept(s: &[u8], own: &[u8], ends: &[usize], out: &mut [u8]) -> Strippe
             Next::Field {
                 start,
                 name_end,
-                body_start: body,
+                body_start,
                 end,
             } => {
-                if is_removed(own, ends, &s[start..name_end], &s[body..end - 2]) {
+                if is_removed(own, ends, &s[start..name_end], &s[body_start..end - 2]) {
+                    text_write::put_byte(1, marks, count);
+                    text_parts::places::keep(stops, count, end);
                     removed += end - start;
                     fields += 1;
                     at = end;
                     count += 1;
                 } else {
-                    kept += text_write::put_text(&s[start..end], out, kept);
+                    text_write::put_byte(0, marks, count);
+                    text_parts::places::keep(stops, count, end);
                     at = end;
                     count += 1;
                 }
             }
             Next::End => {
-                return Stripped {
+                return Sifted {
                     number: Number::DONE,
                     place: 0,
-                    kept,
+                    count,
                     removed,
                     fields,
                 };
             }
             Next::Refused { number, place } => {
-                return Stripped {
+                return Sifted {
                     number,
                     place,
-                    kept,
+                    count,
                     removed,
                     fields,
                 };

@@ -1,4 +1,4 @@
--- What stripping promises beyond its contract. Each theorem is about the definition that the contract of `strip::strip` cites.
+-- What stripping promises. Each theorem is about document 01's stripping, which `strip::mark` and `strip::copy` give together (`pair-strips` in strip_steps_laws).
 use Prim.Native.Nat.{ℕ, _+_, _≤_}
 use native.Mathlib.Omega.{arith}
 use mathlib.Core.Path.{_≡_, ap, _∙_}

@@ -1,6 +1,6 @@
 // Stripping: definitions and theorems. Of code there is only the type of an answer.
 
-// What `strip::strip` answers: number and place, kept and removed bytes, and removed fields.
+// What stripping answers, and so `strip::copy`: number and place, kept and removed bytes, and removed fields.
 pub struct Stripped {
     pub number: u8,
     pub place: usize,

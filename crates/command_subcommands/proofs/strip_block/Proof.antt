@@ -4,8 +4,8 @@ use borrow.Author.Needs.{needs}
 use Rattle.command_subcommands.proofs.strip_block.Statement.{statement}
 use Rattle.command_subcommands.proofs.strip_block.Tie as tie
 
-strip-requires : tie.Need-strip-requires
-strip-requires c κs = search needs
+strip-in-steps-requires : tie.Need-strip-in-steps-requires
+strip-in-steps-requires c κs = search needs
 
 made-of-requires : tie.Need-made-of-requires
 made-of-requires c κs = search needs
@@ -16,7 +16,7 @@ same-length c = search needs
 returns : tie.Need-returns
 returns c =
     let x = c .before .before .before .before .before .before .before .before .args in
-    strip-makes (x .block .now) (x .list .now) (x .out .now) _ (c .before .before .before .strip .result) (c .made-of .result) (c .before .before .before .strip .ensures .0) (c .before .before .before .strip .ensures .1) (c .made-of .ensures)
+    strip-makes (x .block .now) (x .list .now) (x .out .now) _ (c .before .before .before .strip-in-steps .result) (c .made-of .result) (c .before .before .before .strip-in-steps .ensures .0) (c .before .before .before .strip-in-steps .ensures .1) (c .made-of .ensures)
 
 pub strip-block-spec : {M : Type 1} → statement M
-strip-block-spec = tie.close (tie.spec strip-requires made-of-requires same-length returns)
+strip-block-spec = tie.close (tie.spec strip-in-steps-requires made-of-requires same-length returns)

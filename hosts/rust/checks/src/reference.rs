@@ -4,11 +4,13 @@
 //! differential tests compare the two, and the benchmark measures one against the other.
 //! Names in quotes are the paper's sections. Identifiers are compared as ticket [2] of document
 //! 02 has it: with international labels. What its ticket [1] adds, our own field from report
-//! lines, is a module of its own.
+//! lines, is a module of its own, and so is ticket [7], stripping in two steps.
 
 mod punycode;
+mod steps;
 mod write;
 
+pub use steps::{copy, mark};
 pub use write::write;
 
 use std::borrow::Cow;

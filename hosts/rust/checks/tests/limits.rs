@@ -2,7 +2,7 @@
 //! `limit`. These tests tie them together.
 
 use orbendash::limit;
-use orbendash::raw::{number, report, strip};
+use orbendash::raw::{copy, mark, number, report, strip};
 
 /// The number that the C header gives a name.
 fn named(name: &str) -> usize {
@@ -51,6 +51,28 @@ fn the_library_has_the_same_limits() {
     assert_eq!(stripped(b"", &entry(1).repeat(limit::ENTRIES)), (0, 0));
     let entries = entry(1).repeat(limit::ENTRIES + 1);
     assert_eq!(stripped(b"", &entries), (5, 2 * limit::ENTRIES));
+}
+
+#[test]
+fn all_marks_fit_their_room() {
+    let block = b"Authentication-Results:\r\n".repeat(limit::FIELDS);
+    let mut marks = [0; limit::FIELDS];
+    let answer = mark(&block, b"", &mut marks);
+    assert_eq!((answer.number, answer.written), (0, limit::FIELDS));
+    assert_eq!(marks, [1; limit::FIELDS]);
+    let short = mark(&block, b"", &mut marks[1..]);
+    assert_eq!((short.number, short.place), (6, limit::FIELDS));
+    // What is copied fits into as many bytes as the block has.
+    let (block, marks) = (b"A:\r\n".repeat(limit::FIELDS), [0; limit::FIELDS + 1]);
+    let mut out = vec![0; block.len()];
+    let copied = copy(&block, b"", &marks[1..], &mut out);
+    assert_eq!((copied.number, copied.kept), (0, block.len()));
+    let short = copy(&block, b"", &marks[1..], &mut out[1..]);
+    assert_eq!((short.number, short.place), (6, block.len()));
+    assert_eq!(
+        copy(&block, b"", &marks, &mut out).number,
+        number::OTHER_MARKS
+    );
 }
 
 #[test]

@@ -46,11 +46,60 @@ fn check_strip(block: &[u8], lines: &[u8]) {
         }
         Err(refusal) => assert_eq!(told(refusal), (answer.number, answer.place)),
     }
+    check_steps(block, &own);
     let mut short = vec![0; answer.kept.saturating_sub(1)];
     let shorter = raw::strip(block, lines, &mut short.clone());
     match orbendash::strip_into(block, &own, &mut short) {
         Ok(counts) => assert_eq!((0, counts.kept), (shorter.number, shorter.kept)),
         Err(refusal) => assert_eq!(told(refusal), (shorter.number, shorter.place)),
+    }
+}
+
+/// Both steps: what `Marks` says of the bytes, and what the copy does with these and with others.
+fn check_steps(block: &[u8], own: &List) {
+    let mut bytes = vec![0; limit::FIELDS];
+    let answer = raw::mark(block, own.as_bytes(), &mut bytes);
+    let marks = match orbendash::mark(block, own) {
+        Ok(marks) => marks,
+        Err(refusal) => return assert_eq!(told(refusal), (answer.number, answer.place)),
+    };
+    assert_eq!(answer.number, 0);
+    assert_eq!(marks.as_bytes(), &bytes[..answer.written]);
+    let mut fields = 0;
+    for (number, field) in orbendash::fields(block).enumerate() {
+        let field = field.unwrap();
+        let goes = field.is_named("Authentication-Results")
+            && orbendash::whose(own, field.body) != Ok(Whose::Others);
+        assert_eq!(marks.goes(number), goes, "{}", shown(block));
+        fields += 1;
+    }
+    assert_eq!(
+        (marks.as_bytes().len(), marks.goes(fields)),
+        (fields, false)
+    );
+    let going: Vec<usize> = (0..fields).filter(|&field| marks.goes(field)).collect();
+    assert!(marks.going().eq(going.iter().copied()));
+    let stripped = orbendash::strip(block, own).unwrap();
+    assert_eq!(stripped.fields, going.len());
+    let mut out = vec![b'?'; block.len()];
+    let counts = orbendash::copy_into(block, own, marks.as_bytes(), &mut out).unwrap();
+    assert_eq!(out[..counts.kept], stripped.block);
+    assert!(out[counts.kept..].iter().all(|&byte| byte == b'?'));
+    assert_eq!(
+        (counts.removed, counts.fields),
+        (stripped.removed, stripped.fields)
+    );
+    assert_eq!(
+        orbendash::copy(block, own, marks.as_bytes()).as_ref(),
+        Ok(&stripped)
+    );
+    // The marks of what is left are others, but where nothing went.
+    let left = orbendash::mark(&stripped.block, own).unwrap();
+    assert_eq!(left.going().count(), 0);
+    let again = orbendash::copy(block, own, left.as_bytes());
+    match going.len() {
+        0 => assert_eq!(again, Ok(stripped)),
+        _ => assert_eq!(again.map_err(told), Err((13, 0))),
     }
 }
 

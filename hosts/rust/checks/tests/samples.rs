@@ -8,13 +8,17 @@ use common::deep;
 use common::rfc_3492::SAMPLES;
 use orbendash::raw as library;
 use orbendash::raw::{
-    outcome, reason, status, FieldAnswer, JudgeAnswer, ReportAnswer, StripAnswer,
+    outcome, reason, status, FieldAnswer, JudgeAnswer, MarkAnswer, ReportAnswer, StripAnswer,
 };
 use orbendash_checks::reference;
+
+type Copy = fn(&[u8], &[u8], &[u8], &mut [u8]) -> StripAnswer;
 
 /// The same calls from both.
 struct Calls {
     strip: fn(&[u8], &[u8], &mut [u8]) -> StripAnswer,
+    mark: fn(&[u8], &[u8], &mut [u8]) -> MarkAnswer,
+    copy: Copy,
     report: fn(&[u8], &mut [u8]) -> ReportAnswer,
     judge: fn(&[u8], &[u8]) -> JudgeAnswer,
     next_field: fn(&[u8], usize) -> FieldAnswer,
@@ -23,12 +27,16 @@ struct Calls {
 const BOTH: [Calls; 2] = [
     Calls {
         strip: library::strip,
+        mark: library::mark,
+        copy: library::copy,
         report: library::report,
         judge: library::judge,
         next_field: library::next_field,
     },
     Calls {
         strip: reference::strip,
+        mark: reference::mark,
+        copy: reference::copy,
         report: reference::report,
         judge: reference::judge,
         next_field: reference::next_field,
@@ -214,6 +222,53 @@ fn stripping() {
         kept.concat().as_bytes(),
         6,
     );
+}
+
+/// 02, ticket [7]: a byte for each field, and a copy that asks for exactly these bytes.
+#[test]
+fn two_steps() {
+    let own = b"example.com\n";
+    let block = b"From: a@b.example\r\nAuthentication-Results : Example.COM; none\r\n";
+    for calls in &BOTH {
+        let mut marks = [b'?'; 3];
+        let short = (calls.mark)(block, own, &mut marks[..1]);
+        assert_eq!((short.number, short.place, short.written), (6, 2, 0));
+        assert_eq!(&marks, b"???");
+        let marked = (calls.mark)(block, own, &mut marks);
+        assert_eq!((marked.number, marked.place, marked.written), (0, 0, 2));
+        assert_eq!(&marks, &[0, 1, b'?']);
+        let mut out = [b'?'; 20];
+        // 13 comes before 6, and 5 and 2 before both; then nothing is written.
+        for (list, handed, room, number, place) in [
+            (&own[..], &[0, 1][..], 18, 6, 19),
+            (own, &[0, 0], 18, 13, 0),
+            (own, &[1, 1], 20, 13, 0),
+            (own, &[0], 20, 13, 0),
+            (own, &[0, 1, 0], 20, 13, 0),
+            (b"", &[0, 1], 20, 13, 0),
+            (b"\n", &[0, 0], 0, 5, 0),
+        ] {
+            let refused = StripAnswer {
+                number,
+                place,
+                ..StripAnswer::default()
+            };
+            let answer = (calls.copy)(block, list, handed, &mut out[..room]);
+            assert_eq!(answer, refused, "{handed:?}");
+            assert_eq!(out, [b'?'; 20]);
+        }
+        assert_eq!((calls.copy)(b"A:\n", own, &[1], &mut []).number, 2);
+        let copied = (calls.copy)(block, own, &[0, 1], &mut out);
+        let done = StripAnswer {
+            number: 0,
+            place: 0,
+            kept: 19,
+            removed: 44,
+            fields: 1,
+        };
+        assert_eq!(copied, done);
+        assert_eq!(&out, b"From: a@b.example\r\n?");
+    }
 }
 
 /// Whether a field with this identifier is removed where this entry is on the list.

@@ -197,10 +197,42 @@ fn lines_written() {
     );
 }
 
-/// Up to sixteen fields that go are cut out at once, more in a second pass.
+/// Every byte in place of each mark, for every number of fields up to a few windows: only the right one
+/// is taken.
+#[test]
+fn marks() {
+    let mut inputs = 0usize;
+    for fields in 1..=longest().max(66) {
+        let mut block = Vec::new();
+        for field in 0..fields {
+            block.extend(match field % 3 {
+                1 => &b"Authentication-Results: own.example\r\n"[..],
+                _ => b"X: y\r\n",
+            });
+        }
+        let mut right = vec![0; fields];
+        assert_eq!(library::mark(&block, OWN, &mut right).written, fields);
+        let mut out = vec![0; block.len()];
+        let done = library::copy(&block, OWN, &right, &mut out);
+        assert_eq!(done.number, 0);
+        for place in 0..fields {
+            let mut marks = right.clone();
+            for byte in (0..=255).filter(|&byte| byte != right[place]) {
+                marks[place] = byte;
+                let answer = library::copy(&block, OWN, &marks, &mut out);
+                assert_eq!(answer, reference::copy(&block, OWN, &marks, &mut []));
+                assert_eq!(answer.number, 13, "{fields} fields, {byte} at {place}");
+                inputs += 1;
+            }
+        }
+    }
+    tell(&format!("marks: {inputs} inputs\n"));
+}
+
+/// Fields that go and stay side by side, up to more than small rooms hold.
 #[test]
 fn many_fields_that_go() {
-    for gone in 0..40 {
+    for gone in (0..40).chain([63, 64, 65, 66, 70]) {
         for kept in 0..4 {
             let mut block = Vec::new();
             for index in 0..gone {

@@ -1,11 +1,12 @@
 //! Authentication-Results (RFC 8601) and ARC (RFC 8617) header fields for mail gateways.
 //!
 //! The calls are those of the proved static library `liborbendash.a`, for x86-64 Linux: [`strip`]
-//! the fields that speak in our own name, ask [`whose`] a field is, [`report`] what one says,
-//! [`write()`] one of our own, [`judge`] an ARC chain, and walk the [`fields`] of a block. Any bytes
-//! may be handed in; no call panics on them, keeps anything, or takes longer than in proportion to
-//! them, but for some that docs/SPEED.md names. What can't be done is a [`Refusal`], with its
-//! number and place: **never deliver what was refused.**
+//! the fields that speak in our own name, or [`mark`] them, log them and [`copy`] the rest; ask
+//! [`whose`] a field is, [`report`] what one says, [`write()`] one of our own, [`judge`] an ARC
+//! chain, and walk the [`fields`] of a block. Any bytes may be handed in; no call panics on them,
+//! keeps anything, or takes longer than in proportion to them, but for some that docs/SPEED.md
+//! names. What can't be done is a [`Refusal`], with its number and place: **never deliver what was
+//! refused.**
 //!
 //! A header block is handed in without the empty line after it, its lines ended by CRLF. Our own
 //! identifiers are a [`List`], which is checked once.
@@ -37,8 +38,8 @@
 //!
 //! Each call that writes allocates its output; the ones that end in `_into` write to a lent buffer
 //! instead. [`raw`] has the calls as C has them. The library needs up to 132 KiB of stack
-//! ([`judge`]; 88 KiB [`strip`] and [`whose`]), which a thread of Rust's has unless it is given
-//! less.
+//! ([`judge`]; 88 KiB [`copy`] and [`strip`]; 84 KiB [`mark`] and [`whose`]), which a thread of
+//! Rust's has unless it is given less.
 
 #![deny(missing_docs)]
 
@@ -64,7 +65,7 @@ pub use fields::{fields, Field, Fields};
 pub use list::{whose, List, Whose};
 pub use refusal::Refusal;
 pub use report::{report, report_into, Line, Lines, Report, Text, ValueKind};
-pub use strip::{strip, strip_into, Counts, Stripped};
+pub use strip::{copy, copy_into, mark, strip, strip_into, Counts, Marks, Stripped};
 pub use write::{coded, write, write_into};
 
 /// The version of this package. Where the library that was linked has another one,

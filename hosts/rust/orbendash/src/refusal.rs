@@ -38,8 +38,9 @@ pub enum Refusal {
         /// Where it starts.
         place: usize,
     },
-    /// 5: a bad entry of our own list: empty, over [`limit::ENTRY_BYTES`] bytes, without its LF, one
-    /// more than [`limit::ENTRIES`], or with a byte that is neither 33 to 126 nor part of UTF-8.
+    /// 5: a bad entry of our own list: empty, over [`limit::ENTRY_BYTES`] bytes, without its LF,
+    /// one more than [`limit::ENTRIES`], or with a byte that is neither 33 to 126 nor part of
+    /// UTF-8.
     BadList {
         /// Where it starts in the list.
         place: usize,
@@ -61,6 +62,9 @@ pub enum Refusal {
         /// too early, one more than their count.
         line: usize,
     },
+    /// 13: the marks aren't exactly those that [`mark`](crate::mark) gives for this block and list.
+    /// One of the three was changed since: ask for the marks again.
+    OtherMarks,
     /// A number that this package doesn't know: the library is of a later version.
     Other {
         /// The number.
@@ -84,6 +88,7 @@ impl Refusal {
             number::BAD_BODY => Refusal::BadBody,
             number::BAD_VERDICTS => Refusal::BadVerdicts,
             number::BAD_LINES => Refusal::BadLines { line: place },
+            number::OTHER_MARKS => Refusal::OtherMarks,
             number => Refusal::Other { number, place },
         }
     }
@@ -102,6 +107,7 @@ impl Refusal {
             Refusal::BadBody => number::BAD_BODY,
             Refusal::BadVerdicts => number::BAD_VERDICTS,
             Refusal::BadLines { .. } => number::BAD_LINES,
+            Refusal::OtherMarks => number::OTHER_MARKS,
             Refusal::Other { number, .. } => number,
         }
     }
@@ -110,9 +116,11 @@ impl Refusal {
     #[must_use]
     pub fn place(&self) -> usize {
         match *self {
-            Refusal::TooLong | Refusal::BadIdentifier | Refusal::BadBody | Refusal::BadVerdicts => {
-                0
-            }
+            Refusal::TooLong
+            | Refusal::BadIdentifier
+            | Refusal::BadBody
+            | Refusal::BadVerdicts
+            | Refusal::OtherMarks => 0,
             Refusal::BadLineEnd { place }
             | Refusal::BadLine { place }
             | Refusal::TooManyFields { place }
@@ -149,6 +157,7 @@ impl fmt::Display for Refusal {
             Refusal::BadBody => write!(f, "the body isn't well-formed"),
             Refusal::BadVerdicts => write!(f, "the verdicts don't fit the chain"),
             Refusal::BadLines { line } => write!(f, "no body has that report, at line {line}"),
+            Refusal::OtherMarks => write!(f, "the marks aren't those of this block and list"),
             Refusal::Other { place, .. } => {
                 write!(f, "a number of a later version of the library, at {place}")
             }

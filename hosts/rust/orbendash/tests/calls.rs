@@ -4,8 +4,8 @@
 use std::error::Error;
 
 use orbendash::{
-    judge, limit, report, strip, strip_into, whose, write, Line, List, Outcome, Reason, Refusal,
-    Status, ValueKind, Verdict, Whose,
+    copy, copy_into, judge, limit, mark, report, strip, strip_into, whose, write, Line, List,
+    Outcome, Reason, Refusal, Status, ValueKind, Verdict, Whose,
 };
 
 fn list(entries: &[&str]) -> List {
@@ -17,7 +17,7 @@ fn refusals() {
     let own = list(&["example.com"]);
     let long = vec![b'a'; limit::BYTES + 1];
     let many = b"A:\r\n".repeat(limit::FIELDS + 1);
-    let cases: [(Refusal, u8, usize, &str); 12] = [
+    let cases: [(Refusal, u8, usize, &str); 17] = [
         (strip(&long, &own).unwrap_err(), 1, 0, "1: more than 65536 bytes"),
         (whose(&own, &long).unwrap_err(), 1, 0, "1: more than 65536 bytes"),
         (strip(b"A:\rB\r\n", &own).unwrap_err(), 2, 2, "2: a CR without LF, an LF without CR, or a last line without CRLF, at 2"),
@@ -30,6 +30,11 @@ fn refusals() {
         (judge(CHAIN, &[]).unwrap_err(), 10, 0, "10: the verdicts don't fit the chain"),
         (write("id\ta\n").unwrap_err(), 11, 2, "11: no body has that report, at line 2"),
         (judge(b"\n", &[]).unwrap_err(), 2, 0, "2: a CR without LF, an LF without CR, or a last line without CRLF, at 0"),
+        (mark(&many, &own).unwrap_err(), 4, 2048, "4: more than 512 fields, at 2048"),
+        (copy(&long, &own, &[]).unwrap_err(), 1, 0, "1: more than 65536 bytes"),
+        (copy(b"A:\r\nB\r\n", &own, &[]).unwrap_err(), 3, 4, "3: an empty line, a first line that starts with space or tab, or a field without name or colon, at 4"),
+        (copy_into(b"A:\r\n", &own, &[1], &mut []).unwrap_err(), 13, 0, "13: the marks aren't those of this block and list"),
+        (copy_into(b"A:\r\n", &own, &[0], &mut []).unwrap_err(), 6, 4, "6: the output is too short: 4 bytes are needed"),
     ];
     for (refusal, number, place, text) in cases {
         assert_eq!((refusal.number(), refusal.place()), (number, place));
@@ -37,6 +42,86 @@ fn refusals() {
         let error: Box<dyn Error + Send + Sync> = refusal.into();
         assert!(error.source().is_none());
     }
+}
+
+#[test]
+fn steps() {
+    let own = list(&["example.com"]);
+    let block = b"From: a\r\nAuthentication-Results: Example.COM; none\r\nTo: b\r\nauthentication-results:\r\n";
+    let marks = mark(block, &own).unwrap();
+    assert_eq!(marks.as_bytes(), [0, 1, 0, 1]);
+    assert_eq!(
+        [0, 1, 2, 3, 4].map(|field| marks.goes(field)),
+        [false, true, false, true, false]
+    );
+    assert!(!marks.goes(usize::MAX));
+    assert!(marks.going().eq([1, 3]));
+    let copied = copy(block, &own, marks.as_bytes()).unwrap();
+    assert_eq!(copied.block, b"From: a\r\nTo: b\r\n");
+    assert_eq!((copied.removed, copied.fields), (block.len() - 16, 2));
+    assert_eq!(strip(block, &own), Ok(copied.clone()));
+    let mut out = [b'?'; 20];
+    let counts = copy_into(block, &own, marks.as_bytes(), &mut out).unwrap();
+    assert_eq!(
+        (counts.kept, counts.removed, counts.fields),
+        (16, copied.removed, 2)
+    );
+    assert_eq!(&out, b"From: a\r\nTo: b\r\n????");
+
+    let none = mark(b"", &own).unwrap();
+    assert_eq!((none.as_bytes(), none.going().count()), (&b""[..], 0));
+    assert_eq!(copy(b"", &own, none.as_bytes()).unwrap().block, b"");
+}
+
+/// Marks that were asked for before something was changed remove nothing.
+#[test]
+fn stale_marks() {
+    let own = list(&["example.com"]);
+    let block =
+        b"Authentication-Results: a.example\r\nAuthentication-Results: example.com\r\nTo: b\r\n";
+    let marks = mark(block, &own).unwrap();
+    assert!(marks.going().eq([1]));
+    let before = [b"From: a\r\n", &block[..]].concat();
+    let behind = [&block[..], b"From: a\r\n"].concat();
+    let without = &block[35..];
+    let exchanged = [&block[35..72], &block[..35], &block[72..]].concat();
+    for changed in [&before[..], &behind, without, &exchanged, b""] {
+        let mut out = [b'?'; 100];
+        assert_eq!(
+            copy(changed, &own, marks.as_bytes()),
+            Err(Refusal::OtherMarks)
+        );
+        assert_eq!(
+            copy_into(changed, &own, marks.as_bytes(), &mut out),
+            Err(Refusal::OtherMarks)
+        );
+        assert_eq!(out, [b'?'; 100]);
+        assert!(mark(changed, &own).is_ok());
+    }
+    for other in [
+        list(&[]),
+        list(&["a.example"]),
+        list(&["example.com", "a.example"]),
+    ] {
+        assert_eq!(
+            copy(block, &other, marks.as_bytes()),
+            Err(Refusal::OtherMarks)
+        );
+    }
+    for damaged in [
+        &[][..],
+        &[0, 1],
+        &[0, 1, 0, 0],
+        &[0, 2, 0],
+        &[1, 1, 0],
+        &[0, 0, 0],
+        b"010",
+    ] {
+        assert_eq!(copy(block, &own, damaged), Err(Refusal::OtherMarks));
+    }
+    // An entry more that no field has doesn't change them.
+    let wider = list(&["example.com", "b.example"]);
+    assert_eq!(copy(block, &wider, marks.as_bytes()), strip(block, &own));
 }
 
 #[test]

@@ -1,10 +1,12 @@
-//! Measures the six calls: `cargo run --release --bin bench`, and with `-- --counts` the
-//! instructions of the realistic calls, counted by valgrind, which are the same on each run.
+//! Measures the calls: `cargo run --release --bin bench`, and with `-- --counts` the instructions
+//! of the realistic calls, counted by valgrind, which are the same on each run.
 //!
 //! The linked library, the independent implementation and a copy of the same bytes take turns,
 //! and the best of many short rounds counts, so that whatever else the machine does matters
 //! little. The inputs are realistic ones, and for each call 64 KiB of what might be slow. The
-//! last column says how much longer these take than half as many bytes: about 2 is linear.
+//! last column says how much longer these take than half as many bytes: about 2 is linear. Stripping
+//! is measured by steps, `mark` and `copy` with the right marks, and with both steps in turn; beside
+//! both stands an implementation that strips in one walk.
 
 use std::hint::black_box;
 use std::process::{Command, ExitCode};
@@ -30,6 +32,16 @@ const ROUND_NANOSECONDS: u128 = 150_000;
 
 /// A call with its input.
 enum Call {
+    Mark {
+        block: Vec<u8>,
+        list: Vec<u8>,
+    },
+    Copy {
+        block: Vec<u8>,
+        list: Vec<u8>,
+        marks: Vec<u8>,
+    },
+    /// Both steps in turn.
     Strip {
         block: Vec<u8>,
         list: Vec<u8>,
@@ -63,7 +75,9 @@ enum Call {
 impl Call {
     fn name(&self) -> &'static str {
         match self {
-            Call::Strip { .. } => "strip",
+            Call::Mark { .. } => "mark",
+            Call::Copy { .. } => "copy",
+            Call::Strip { .. } => "strip, both steps",
             Call::Whose { .. } => "whose",
             Call::Report { .. } => "report",
             Call::Write { .. } => "write",
@@ -79,7 +93,9 @@ impl Call {
             Call::Whose { body, .. } => body.clone(),
             Call::Report { bodies } => bodies.concat(),
             Call::Write { reports } => reports.concat(),
-            Call::Strip { block, .. }
+            Call::Mark { block, .. }
+            | Call::Copy { block, .. }
+            | Call::Strip { block, .. }
             | Call::Judge { block, .. }
             | Call::NextField { block, .. }
             | Call::Walk { block, .. } => block.clone(),
@@ -89,6 +105,10 @@ impl Call {
     /// Runs the library's call; the last answer number.
     fn library(&self, out: &mut [u8]) -> u8 {
         match self {
+            Call::Mark { block, list } => black_box(library::mark(block, list, out)).number,
+            Call::Copy { block, list, marks } => {
+                black_box(library::copy(block, list, marks, out)).number
+            }
             Call::Strip { block, list } => black_box(library::strip(block, list, out)).number,
             Call::Whose { list, body } => black_box(library::whose(list, body)).number,
             Call::Report { bodies } => bodies
@@ -110,6 +130,10 @@ impl Call {
     /// The same with the independent implementation.
     fn reference(&self, out: &mut [u8]) -> u8 {
         match self {
+            Call::Mark { block, list } => black_box(reference::mark(block, list, out)).number,
+            Call::Copy { block, list, marks } => {
+                black_box(reference::copy(block, list, marks, out)).number
+            }
             Call::Strip { block, list } => black_box(reference::strip(block, list, out)).number,
             Call::Whose { list, body } => black_box(reference::whose(list, body)).number,
             Call::Report { bodies } => bodies
@@ -248,7 +272,7 @@ fn measure<const N: usize>(calls: [&Call; N]) -> [Times; N] {
 fn print_row(call: &Call, input: &str, times: &Times, growth: Option<f64>) {
     let growth = growth.map_or("-".to_string(), |growth| format!("{growth:.2}"));
     println!(
-        "{:<11}{:<40}{:>6}{:>8}{:>13.0}{:>11.2}{:>9.1}{:>12}",
+        "{:<19}{:<40}{:>6}{:>8}{:>13.0}{:>11.2}{:>9.1}{:>12}",
         call.name(),
         input,
         times.number,
@@ -382,11 +406,23 @@ fn fields(size: usize, count: usize, start: impl Fn(usize) -> String) -> Vec<u8>
 /// 16 deep, the most that is read.
 const DEEP: &[u8] = b"((((((((((((((((x))))))))))))))))";
 
+fn mark(block: Vec<u8>, list: &[u8]) -> Call {
+    let list = list.to_vec();
+    Call::Mark { block, list }
+}
+
+/// The second step, with the marks of the first.
+fn copy(block: Vec<u8>, list: &[u8]) -> Call {
+    let mut marks = vec![0; orbendash::limit::FIELDS];
+    let answer = reference::mark(&block, list, &mut marks);
+    marks.truncate(answer.written);
+    let list = list.to_vec();
+    Call::Copy { block, list, marks }
+}
+
 fn strip(block: Vec<u8>, list: &[u8]) -> Call {
-    Call::Strip {
-        block,
-        list: list.to_vec(),
-    }
+    let list = list.to_vec();
+    Call::Strip { block, list }
 }
 
 fn report(body: Vec<u8>) -> Call {
@@ -598,28 +634,31 @@ fn whose_rows() {
     });
 }
 
-fn strip_rows(mail: &[u8]) {
+/// One of the steps, or both.
+type Step = fn(Vec<u8>, &[u8]) -> Call;
+
+fn strip_rows(mail: &[u8], step: Step) {
     let own = b"mx.example.com\nexample.com\n";
-    realistic("mail of 32 fields", strip(mail.to_vec(), own));
+    realistic("mail of 32 fields", step(mail.to_vec(), own));
     let appendix_b = APPENDIX_B.map(|(body, _)| format!("Authentication-Results:{body}\r\n"));
     realistic(
         "Appendix B as a block",
-        strip(appendix_b.concat().into_bytes(), own),
+        step(appendix_b.concat().into_bytes(), own),
     );
     let with_a_label = b"mx.example.com\nxn--bcher-kva.example\n";
     realistic(
         "mail of 32 fields, one A-label",
-        strip(mail.to_vec(), with_a_label),
+        step(mail.to_vec(), with_a_label),
     );
     let short: Vec<u8> = (0..64)
         .flat_map(|n| format!("xn--bcher-kva.mx-{n}.example\n").into_bytes())
         .collect();
     realistic(
         "mail of 32 fields, 64 A-labels",
-        strip(mail.to_vec(), &short),
+        step(mail.to_vec(), &short),
     );
-    all_filled(FIELDS, |block| strip(block, own));
-    all_filled(A_LABELS, |block| strip(block, with_a_label));
+    all_filled(FIELDS, |block| step(block, own));
+    all_filled(A_LABELS, |block| step(block, with_a_label));
     for (name, ids) in [
         ("512 fields, all kept", ["other.example", "another.example"]),
         ("512 fields, all removed", ["Example.COM", "example.com"]),
@@ -630,51 +669,51 @@ fn strip_rows(mail: &[u8]) {
     ] {
         adversarial(name, |size| {
             let start = |n: usize| format!("Authentication-Results: {};", ids[n % 2]);
-            strip(fields(size, 512, start), own)
+            step(fields(size, 512, start), own)
         });
     }
     let id = "n".repeat(254);
     adversarial("near misses in 64 long entries", |size| {
         let start = |_| format!("Authentication-Results:{id}!;");
-        strip(fields(size, size / 282, start), &near_misses(&id))
+        step(fields(size, size / 282, start), &near_misses(&id))
     });
     adversarial("near misses, quoted", |size| {
         let quoted: String = id.chars().flat_map(|c| ['\\', c]).collect();
         let start = |_| format!("Authentication-Results:\"{quoted}!\";");
-        strip(fields(size, size / 540, start), &near_misses(&id))
+        step(fields(size, size / 540, start), &near_misses(&id))
     });
     adversarial("near misses in 64 short entries", |size| {
         let start = |_| "Authentication-Results: mail.example.co!;".to_string();
-        strip(fields(size, 512, start), &near_misses("mail.example.co"))
+        step(fields(size, 512, start), &near_misses("mail.example.co"))
     });
-    a_label_rows();
+    a_label_rows(step);
 }
 
 /// Lists of 64 A-labels of 255 bytes.
-fn a_label_rows() {
+fn a_label_rows(step: Step) {
     adversarial("512 fields, 64 long A-labels", |size| {
         let start = |n| format!("Authentication-Results: {};", ["other.example", "a"][n % 2]);
-        strip(fields(size, 512, start), &long_a_labels())
+        step(fields(size, 512, start), &long_a_labels())
     });
     let id = long_a_label(100, 64);
     adversarial("512 A-labels, 64 long A-labels", |size| {
         let start = |_| format!("Authentication-Results:{id};");
-        strip(fields(size, size / 128, start), &long_a_labels())
+        step(fields(size, size / 128, start), &long_a_labels())
     });
     let id = format!("{}.{}xn--tda", "a".repeat(11), "a.".repeat(33));
     adversarial("512 A-labels, near misses", |size| {
         let start = |_| format!("Authentication-Results:{id};");
-        strip(fields(size, size / 128, start), &many_a_labels())
+        step(fields(size, size / 128, start), &many_a_labels())
     });
     let id = long_a_label(255, 64);
     adversarial("long A-labels, near misses", |size| {
         let start = |_| format!("Authentication-Results:{id};");
-        strip(fields(size, size / 282, start), &long_a_labels())
+        step(fields(size, size / 282, start), &long_a_labels())
     });
     adversarial("long A-labels, near misses, quoted", |size| {
         let quoted: String = id.chars().flat_map(|c| ['\\', c]).collect();
         let start = |_| format!("Authentication-Results:\"{quoted}\";");
-        strip(fields(size, size / 540, start), &long_a_labels())
+        step(fields(size, size / 540, start), &long_a_labels())
     });
 }
 
@@ -793,6 +832,8 @@ fn realistic_calls() -> Vec<(&'static str, Call)> {
     vec![
         ("Appendix B, all bodies", Call::Report { bodies }),
         ("one field of 384 bytes", report(FIELD.into())),
+        ("mail of 32 fields", mark(mail.clone(), own)),
+        ("mail of 32 fields", copy(mail.clone(), own)),
         ("mail of 32 fields", strip(mail.clone(), own)),
         ("one field of 384 bytes", whose(own, FIELD.into())),
         (
@@ -848,14 +889,14 @@ fn instructions(number: usize, independent: bool) -> Result<u64, String> {
 
 fn print_counts() -> Result<(), String> {
     println!(
-        "{:<11}{:<36}{:>14}{:>14}{:>9}",
+        "{:<19}{:<36}{:>14}{:>14}{:>9}",
         "call", "input", "instructions", "reference", "ratio"
     );
     for (number, (input, call)) in realistic_calls().iter().enumerate() {
         let library = instructions(number, false)?;
         let reference = instructions(number, true)?;
         println!(
-            "{:<11}{:<36}{:>14}{:>14}{:>9.2}",
+            "{:<19}{:<36}{:>14}{:>14}{:>9.2}",
             call.name(),
             input,
             library,
@@ -876,12 +917,14 @@ fn run_one(which: &str, number: &str) -> Option<u8> {
 
 fn print_times() {
     println!(
-        "{:<11}{:<40}{:>6}{:>8}{:>13}{:>11}{:>9}{:>12}",
+        "{:<19}{:<40}{:>6}{:>8}{:>13}{:>11}{:>9}{:>12}",
         "call", "input", "answer", "bytes", "ns per call", "/reference", "/memcpy", "32K to 64K"
     );
     let mail = mail();
     assert_eq!(orbendash::fields(&mail).count(), 32);
-    strip_rows(&mail);
+    for step in [mark, copy, strip] {
+        strip_rows(&mail, step);
+    }
     whose_rows();
     report_rows();
     write_rows();

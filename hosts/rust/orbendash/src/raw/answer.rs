@@ -1,4 +1,4 @@
-//! What the six calls answer, laid out as the C header has it (`hosts/c/orbendash.h`).
+//! What the calls answer, laid out as the C header has it (`hosts/c/orbendash.h`).
 //!
 //! Each answer has a `number` and a `place`. On a refusal, that is on every number but 0 and 8,
 //! all else is 0 and nothing was written. Bytes of a lent buffer past those written stay as
@@ -36,6 +36,8 @@ pub mod number {
     /// first line, from 1, up to which they can begin no such report; where they only stop too
     /// early, one more than their count.
     pub const BAD_LINES: u8 = 11;
+    /// The marks aren't exactly the bytes that `mark` writes for this block and list. Place 0.
+    pub const OTHER_MARKS: u8 = 13;
 }
 
 /// What became of the chain: the values of [`JudgeAnswer::outcome`].
@@ -44,7 +46,8 @@ pub mod outcome {
     pub const NONE: u8 = 0;
     /// The chain is broken; [`JudgeAnswer::reason`](super::JudgeAnswer::reason) says how.
     pub const FAILED: u8 = 1;
-    /// The chain stands, with instances 1 to [`JudgeAnswer::instances`](super::JudgeAnswer::instances).
+    /// The chain stands, with instances 1 to
+    /// [`JudgeAnswer::instances`](super::JudgeAnswer::instances).
     pub const BUILT: u8 = 2;
 }
 
@@ -83,7 +86,21 @@ pub mod whose {
     pub const UNREADABLE: u8 = 2;
 }
 
-/// The answer of `strip`: number 0 to 6.
+/// The answer of `mark`: number 0 to 6.
+#[must_use]
+#[repr(C)]
+#[derive(Clone, Copy, Debug, Default, PartialEq, Eq)]
+pub struct MarkAnswer {
+    /// See [`number`].
+    pub number: u8,
+    /// See [`number`].
+    pub place: usize,
+    /// Bytes written, one for each field.
+    pub written: usize,
+}
+
+/// The answer of `copy`: number 0 to 6 or 13; and of `strip`, both calls in turn, which is never
+/// 13.
 #[must_use]
 #[repr(C)]
 #[derive(Clone, Copy, Debug, Default, PartialEq, Eq)]

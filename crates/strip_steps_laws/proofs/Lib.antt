@@ -1,0 +1,4 @@
+pub mod Marks
+pub mod Numbers
+pub mod PairStrips
+pub mod Calls

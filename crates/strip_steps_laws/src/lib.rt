@@ -1,0 +1,1 @@
+// The laws and theorems of stripping in two steps. There is no code here.
