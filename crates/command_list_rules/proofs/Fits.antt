@@ -26,7 +26,7 @@ use Rattle.command_list_rules.specs.Notices.{noticeOf, unbare, words, si
 
 -- ==== parts of a line
 
-escape-long : (t : List ℕ) → length (escape t) ≤ 3 * length t
+pub escape-long : (t : List ℕ) → length (escape t) ≤ 3 * length t
 unfolding escape
 escape-long [] = omega arith
 escape-long (x ∷ xs) = go (plain x) refl (escape-long xs)
