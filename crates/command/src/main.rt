@@ -1,5 +1,5 @@
 // The command: `command strip LIST` writes the block on standard input without the Authentication-Results fields that speak in our own name
-// or in none; `command report LIST` writes what each Authentication-Results field of it says, and `command explain LIST` the same in words. LIST is a file with our own
+// or in none; `command log LIST` does the same, and says on standard error first which fields go; `command report LIST` writes what each Authentication-Results field of it says, and `command explain LIST` the same in words. LIST is a file with our own
 // identifiers, one to a line; what is noticed of it is said on standard error before the last line. `command check LIST` writes how its entries are compared and what is
 // noticed of them. `command judge VERDICTS` writes what the ARC chain of the block says by VERDICTS, one digit from 0 to 3 for each set from the first: 2 if its
 // seal verified, plus 1 if its signature did. `command write` writes the body of a field of our own from the report lines on standard input.
@@ -8,7 +8,7 @@
 // command ends by whether it went, is said by contracts (command_output_rules). A body is written as it is, with no
 // name before it and no CRLF after it. A refusal writes nothing to standard output. One line on standard error says how
 // it ended (`command_message`): with the numbers of 01 and 02, or 64 for wrong usage, 66 for a list that can't be opened or read, 70 for a failure
-// of the program, 74 for an input that can't be read, or not whole, or an output that can't be written; 0 only where all of the output has been
+// of the program, 74 for an input that can't be read, or not whole, or an output or a log that can't be written; 0 only where all of the output has been
 // written. `bin/orbendash` takes the exit status from that line and takes its absence for a failure, so nothing that goes wrong on the way can look like success.
 use command_files::Opened;
 use command_output_rules::Made;
@@ -52,6 +52,22 @@ fn strip(block: &[u8], list: &[u8]) {
     finish(made, &out, list);
 }
 
+// Writes to standard error which fields go, and answers whether all of that has gone.
+fn tell_log(block: &[u8], list: &[u8]) -> bool {
+    let mut log = command_buffers::reports();
+    let n = command_log::put_log(block, list, &mut log);
+    command_files::write_whole(STDERR_FILENO, text_parts::part(&log, 0, n))
+}
+
+// Strips once the fields that go have been logged. Who asks for a log must lose no field without one: where it can't be written whole, no output is.
+fn strip_logged(block: &[u8], list: &[u8]) {
+    if tell_log(block, list) {
+        strip(block, list);
+    } else {
+        end(Ending::Unwritten, list);
+    }
+}
+
 fn report(block: &[u8], list: &[u8]) {
     let mut out = command_buffers::reports();
     let made = command_subcommands::report_block(block, list, &mut out);
@@ -68,6 +84,7 @@ fn explain(block: &[u8], list: &[u8]) {
 fn with_block(asked: Asked, block: &[u8], list: &[u8]) {
     match asked {
         Asked::Strip => strip(block, list),
+        Asked::Log => strip_logged(block, list),
         Asked::Report => report(block, list),
         Asked::Explain => explain(block, list),
         Asked::Judge => end(Ending::Usage, list),
@@ -174,6 +191,7 @@ fn main() {
     let n = os::arg(1, &mut word);
     match command_words::asked(os::arg_count(), &word[..n]) {
         Asked::Strip => with_list(Asked::Strip),
+        Asked::Log => with_list(Asked::Log),
         Asked::Report => with_list(Asked::Report),
         Asked::Explain => with_list(Asked::Explain),
         Asked::Judge => with_verdicts(),

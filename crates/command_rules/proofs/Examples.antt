@@ -6,7 +6,7 @@ use Rattle.base_readers.specs.Texts.{bytes, same}
 use Rattle.base_readers.specs.Readers.{run}
 use Rattle.base_readers.proofs.Cases.{case, Says, copies}
 use Rattle.text_decimals_rules.specs.Decimals.{digits, decimal}
-use Rattle.command_rules.specs.declared.Asked.the-variants.{Strip, Report, Explain, Judge, Check, Write, Nothing}
+use Rattle.command_rules.specs.declared.Asked.the-variants.{Strip, Log, Report, Explain, Judge, Check, Write, Nothing}
 use Rattle.command_rules.specs.declared.Ending.the-variants.{Done, Usage, ListClosed, ListUnread, InputUnread, InputTooLong, OutputTooLong, Unwritten, VerdictsRefused, Refused, LinesRefused}
 use Rattle.command_rules.specs.Words.{asked}
 use Rattle.command_rules.specs.Messages.{feeds, feedless, fault, faultAt, meaning, linesMeaning, endingLine}
@@ -17,6 +17,8 @@ use Rattle.command_rules.specs.Messages.{feeds, feedless, fault, faultAt
 with-list :
     Says (asked 3)
     (case (bytes "strip") Strip
+    ∷ case (bytes "log") Log
+    ∷ case (bytes "logs") Nothing
     ∷ case (bytes "report") Report
     ∷ case (bytes "explain") Explain
     ∷ case (bytes "judge") Judge
@@ -32,7 +34,7 @@ with-list = refl
 -- without one
 without-list :
     Says (asked 2)
-    (case (bytes "strip") Nothing ∷ case (bytes "check") Nothing ∷ case (bytes "write") Write ∷ case (bytes "Write") Nothing ∷ case (bytes "writes") Nothing ∷ case [] Nothing ∷ [])
+    (case (bytes "strip") Nothing ∷ case (bytes "log") Nothing ∷ case (bytes "check") Nothing ∷ case (bytes "write") Write ∷ case (bytes "Write") Nothing ∷ case (bytes "writes") Nothing ∷ case [] Nothing ∷ [])
 unfolding asked same
 without-list = refl
 

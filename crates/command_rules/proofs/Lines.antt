@@ -7,7 +7,7 @@ use lib.ListN.{length}
 use borrow.Author.Tests.{le-leb, lt-leb, eq-eqb, ne-eqb}
 use Rattle.base_readers.specs.Texts.{bytes, same}
 use Rattle.ownlist_rules.specs.OwnList.{entryLimit, longest}
-use Rattle.command_rules.specs.declared.Asked.the-variants.{Strip, Report, Explain, Judge, Check, Write, Nothing}
+use Rattle.command_rules.specs.declared.Asked.the-variants.{Strip, Log, Report, Explain, Judge, Check, Write, Nothing}
 use Rattle.command_rules.specs.Words.{asked}
 use Rattle.command_rules.specs.Messages.{untilFeed, fault, faultAt, meaning, linesMeaning}
 
@@ -39,9 +39,14 @@ module _ (count : ℕ) (word : List ℕ) where
             unfolding asked
             asked-check k = rw (eq-eqb count 3 h, ← s, t, ← r, u, ← v, w, ← z, j, ← o, k)
 
-            pub asked-neither : m ≡ false → Nothing ≡ asked count word
-            unfolding asked
-            asked-neither k = rw (eq-eqb count 3 h, ← s, t, ← r, u, ← v, w, ← z, j, ← o, k)
+            module _ (k : m ≡ false) (a : Bool) (b : a ≡ same word (bytes "log")) where
+              pub asked-log : a ≡ true → Log ≡ asked count word
+              unfolding asked
+              asked-log l = rw (eq-eqb count 3 h, ← s, t, ← r, u, ← v, w, ← z, j, ← o, k, ← b, l)
+
+              pub asked-neither : a ≡ false → Nothing ≡ asked count word
+              unfolding asked
+              asked-neither l = rw (eq-eqb count 3 h, ← s, t, ← r, u, ← v, w, ← z, j, ← o, k, ← b, l)
 
   module _ (h : count ≡ 3 → ⊥) where
     pub asked-other : (count ≡ 2 → ⊥) → Nothing ≡ asked count word

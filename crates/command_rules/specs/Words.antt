@@ -1,11 +1,11 @@
--- What the words of a call ask for: `strip LIST`, `report LIST`, `explain LIST`, `judge VERDICTS`, `check LIST` or `write`.
+-- What the words of a call ask for: `strip LIST`, `log LIST`, `report LIST`, `explain LIST`, `judge VERDICTS`, `check LIST` or `write`.
 use Prim.Native.Nat.{ℕ}
 use mathlib.Core.Bool.{true, false, cond}
 use mathlib.Core.List.{List}
 use lib.Dec.{eqb}
 use Rattle.base_readers.specs.Texts.{bytes, same}
 use Rattle.command_rules.specs.declared.Asked.{Asked}
-use Rattle.command_rules.specs.declared.Asked.the-variants.{Strip, Report, Explain, Judge, Check, Write, Nothing}
+use Rattle.command_rules.specs.declared.Asked.the-variants.{Strip, Log, Report, Explain, Judge, Check, Write, Nothing}
 
 -- the modes that take a list or verdicts, and the one that takes nothing more, by their word
 abbrev pub listed : List ℕ → Asked
@@ -13,7 +13,7 @@ listed word =
     cond (same word (bytes "strip")) Strip
     (cond (same word (bytes "report")) Report
     (cond (same word (bytes "explain")) Explain
-    (cond (same word (bytes "judge")) Judge (cond (same word (bytes "check")) Check Nothing))))
+    (cond (same word (bytes "judge")) Judge (cond (same word (bytes "check")) Check (cond (same word (bytes "log")) Log Nothing)))))
 
 abbrev pub unlisted : List ℕ → Asked
 unlisted word = cond (same word (bytes "write")) Write Nothing

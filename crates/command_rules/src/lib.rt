@@ -4,6 +4,8 @@
 // What the words of a call ask for.
 pub enum Asked {
     Strip,
+    // To strip, once the fields that go have been logged.
+    Log,
     Report,
     Explain,
     Judge,

@@ -23,6 +23,9 @@ pub fn asked(count: usize, word: &[u8]) -> Asked
         if text_compare::exact::is_same(word, b"check") {
             return Asked::Check;
         }
+        if text_compare::exact::is_same(word, b"log") {
+            return Asked::Log;
+        }
         return Asked::Nothing;
     }
     if count == 2 {

@@ -1,5 +1,5 @@
 -- `command_words::asked` meets its contract: each test in turn is a case of the definition.
-use Rattle.command_rules.proofs.Lines.{asked-strip, asked-report, asked-explain, asked-judge, asked-check, asked-neither, asked-other, asked-write, asked-unlisted}
+use Rattle.command_rules.proofs.Lines.{asked-strip, asked-report, asked-explain, asked-judge, asked-check, asked-log, asked-neither, asked-other, asked-write, asked-unlisted}
 use borrow.Author.Needs.{needs}
 use Rattle.command_words.proofs.asked.Statement.{statement}
 use Rattle.command_words.proofs.asked.Tie as tie
@@ -53,24 +53,34 @@ returns-5 : tie.Need-returns-5
 returns-5 c =
     asked-check (c .before .before .before .before .before .before .before .before .before .before .before .before .before .before .before .before .before .args .count) (c .before .before .before .before .before .before .before .before .before .before .before .before .before .before .before .before .before .args .word .now) (c .before .before .before .before .before .before .before .before .before .before .before .before .before .before .before .if1 .taken) _ (c .before .before .before .before .before .before .before .before .before .before .before .before .before .is-same .ensures) (c .before .before .before .before .before .before .before .before .before .before .before .before .if2 .left) _ (c .before .before .before .before .before .before .before .before .before .before .is-same2 .ensures) (c .before .before .before .before .before .before .before .before .before .if3 .left) _ (c .before .before .before .before .before .before .before .is-same3 .ensures) (c .before .before .before .before .before .before .if4 .left) _ (c .before .before .before .before .is-same4 .ensures) (c .before .before .before .if5 .left) _ (c .before .is-same5 .ensures) (c .if6 .taken)
 
-returns-6 : tie.Need-returns-6
-returns-6 c =
-    asked-neither (c .before .before .before .before .before .before .before .before .before .before .before .before .before .before .before .before .before .args .count) (c .before .before .before .before .before .before .before .before .before .before .before .before .before .before .before .before .before .args .word .now) (c .before .before .before .before .before .before .before .before .before .before .before .before .before .before .before .if1 .taken) _ (c .before .before .before .before .before .before .before .before .before .before .before .before .before .is-same .ensures) (c .before .before .before .before .before .before .before .before .before .before .before .before .if2 .left) _ (c .before .before .before .before .before .before .before .before .before .before .is-same2 .ensures) (c .before .before .before .before .before .before .before .before .before .if3 .left) _ (c .before .before .before .before .before .before .before .is-same3 .ensures) (c .before .before .before .before .before .before .if4 .left) _ (c .before .before .before .before .is-same4 .ensures) (c .before .before .before .if5 .left) _ (c .before .is-same5 .ensures) (c .if6 .left)
-
 slice-aggregate-is-same-6 : tie.Need-slice-aggregate-is-same-6
 slice-aggregate-is-same-6 c = search needs
 
 is-same-requires-6 : tie.Need-is-same-requires-6
 is-same-requires-6 c κs = search needs
 
+returns-6 : tie.Need-returns-6
+returns-6 c =
+    asked-log (c .before .before .before .before .before .before .before .before .before .before .before .before .before .before .before .before .before .before .before .before .args .count) (c .before .before .before .before .before .before .before .before .before .before .before .before .before .before .before .before .before .before .before .before .args .word .now) (c .before .before .before .before .before .before .before .before .before .before .before .before .before .before .before .before .before .before .if1 .taken) _ (c .before .before .before .before .before .before .before .before .before .before .before .before .before .before .before .before .is-same .ensures) (c .before .before .before .before .before .before .before .before .before .before .before .before .before .before .before .if2 .left) _ (c .before .before .before .before .before .before .before .before .before .before .before .before .before .is-same2 .ensures) (c .before .before .before .before .before .before .before .before .before .before .before .before .if3 .left) _ (c .before .before .before .before .before .before .before .before .before .before .is-same3 .ensures) (c .before .before .before .before .before .before .before .before .before .if4 .left) _ (c .before .before .before .before .before .before .before .is-same4 .ensures) (c .before .before .before .before .before .before .if5 .left) _ (c .before .before .before .before .is-same5 .ensures) (c .before .before .before .if6 .left) _ (c .before .is-same6 .ensures) (c .if7 .taken)
+
 returns-7 : tie.Need-returns-7
-returns-7 c = asked-write (c .before .before .before .before .before .before .args .count) (c .before .before .before .before .before .before .args .word .now) (c .before .before .before .before .if1 .left) (c .before .before .before .if7 .taken) _ (c .before .is-same6 .ensures) (c .if8 .taken)
+returns-7 c =
+    asked-neither (c .before .before .before .before .before .before .before .before .before .before .before .before .before .before .before .before .before .before .before .before .args .count) (c .before .before .before .before .before .before .before .before .before .before .before .before .before .before .before .before .before .before .before .before .args .word .now) (c .before .before .before .before .before .before .before .before .before .before .before .before .before .before .before .before .before .before .if1 .taken) _ (c .before .before .before .before .before .before .before .before .before .before .before .before .before .before .before .before .is-same .ensures) (c .before .before .before .before .before .before .before .before .before .before .before .before .before .before .before .if2 .left) _ (c .before .before .before .before .before .before .before .before .before .before .before .before .before .is-same2 .ensures) (c .before .before .before .before .before .before .before .before .before .before .before .before .if3 .left) _ (c .before .before .before .before .before .before .before .before .before .before .is-same3 .ensures) (c .before .before .before .before .before .before .before .before .before .if4 .left) _ (c .before .before .before .before .before .before .before .is-same4 .ensures) (c .before .before .before .before .before .before .if5 .left) _ (c .before .before .before .before .is-same5 .ensures) (c .before .before .before .if6 .left) _ (c .before .is-same6 .ensures) (c .if7 .left)
+
+slice-aggregate-is-same-7 : tie.Need-slice-aggregate-is-same-7
+slice-aggregate-is-same-7 c = search needs
+
+is-same-requires-7 : tie.Need-is-same-requires-7
+is-same-requires-7 c κs = search needs
 
 returns-8 : tie.Need-returns-8
-returns-8 c = asked-unlisted (c .before .before .before .before .before .before .args .count) (c .before .before .before .before .before .before .args .word .now) (c .before .before .before .before .if1 .left) (c .before .before .before .if7 .taken) _ (c .before .is-same6 .ensures) (c .if8 .left)
+returns-8 c = asked-write (c .before .before .before .before .before .before .args .count) (c .before .before .before .before .before .before .args .word .now) (c .before .before .before .before .if1 .left) (c .before .before .before .if8 .taken) _ (c .before .is-same7 .ensures) (c .if9 .taken)
 
 returns-9 : tie.Need-returns-9
-returns-9 c = asked-other (c .before .before .before .args .count) (c .before .before .before .args .word .now) (c .before .if1 .left) (c .if7 .left)
+returns-9 c = asked-unlisted (c .before .before .before .before .before .before .args .count) (c .before .before .before .before .before .before .args .word .now) (c .before .before .before .before .if1 .left) (c .before .before .before .if8 .taken) _ (c .before .is-same7 .ensures) (c .if9 .left)
+
+returns-10 : tie.Need-returns-10
+returns-10 c = asked-other (c .before .before .before .args .count) (c .before .before .before .args .word .now) (c .before .if1 .left) (c .if8 .left)
 
 pub asked-spec : {M : Type 1} → statement M
 asked-spec =
@@ -91,9 +101,12 @@ asked-spec =
     slice-aggregate-is-same-5
     is-same-requires-5
     returns-5
-    returns-6
     slice-aggregate-is-same-6
     is-same-requires-6
+    returns-6
     returns-7
+    slice-aggregate-is-same-7
+    is-same-requires-7
     returns-8
-    returns-9)
+    returns-9
+    returns-10)
