@@ -3,3 +3,4 @@ pub mod AsAnswered
 pub mod LastLines
 pub mod LastLineTells
 pub mod ExplainRooms
+pub mod LogTells

@@ -2,21 +2,23 @@
 -- call gives, at the front of the buffer that is written, and the line says 0 once that has gone, and only then; where it answers another number, the line tells that
 -- number and its place, nothing is written, and the buffer is as it was (`Tells` in command_laws/specs/LastLine.antt). That holds for all inputs, with any buffer that is
 -- as long as the command's own (command_buffers); those have room for every output, so the calls' 6 is never told. The calls' numbers are those of Demand1.antt.
-use Prim.Native.Nat.{ℕ, _≤_}
+use Prim.Native.Nat.{ℕ, _≤_, _<_}
 use mathlib.Core.Path.{_≡_, refl}
 use mathlib.Core.Bool.{true, false}
 use mathlib.Core.List.{List, [], map}
-use lib.ListN.{length, replicate}
+use mathlib.Core.Logic.{_⊎_}
+use lib.ListN.{length, getD, replicate}
 use Rattle.base_readers.specs.Texts.{bytes}
-use Rattle.block_rules.specs.Fields.{bytesOf}
+use Rattle.block_rules.specs.Fields.{fields, bytesOf}
 use Rattle.ownlist_rules.specs.OwnList.{ownList}
 use Rattle.strip_rules.specs.Strip.{strip}
 use Rattle.strip_rules.specs.Terms.{keptFields}
+use Rattle.strip_steps_rules.specs.Terms.{marksFor}
 use Rattle.blockreport_rules.specs.declared.Detail.the-variants.{Reported, Identified}
 use Rattle.blockreport_rules.specs.BlockReport.{blockReport}
 use Rattle.blockreport_rules.specs.Terms.{blockText}
 use Rattle.write_rules.specs.Compose.{compose}
-use Rattle.write_rules.specs.Promise.{bodyFor}
+use Rattle.write_rules.specs.Promise.{bodyFor, Bytes}
 use Rattle.arc_rules.specs.Chain.{judge}
 use Rattle.arc_rules.specs.Answers.{answerOf}
 use Rattle.explain_rules.specs.Explained.{explained}
@@ -24,6 +26,9 @@ use Rattle.judgement_rules.specs.Judgement.{verdictOf, judgement}
 use Rattle.command_rules.specs.declared.Ending.{Ending}
 use Rattle.command_rules.specs.Messages.{feeds, feedless, fault, meaning, linesMeaning, endingLine}
 use Rattle.command_list_rules.specs.Notices.{checkText}
+use Rattle.command_log_rules.specs.Log.{linesBy, logOf}
+use Rattle.command_log_rules.proofs.PlainAndShort as texts
+use Rattle.command_log_rules.proofs.Examples as examples
 use Rattle.command_sets.specs.Sets.{setsOf}
 use Rattle.command_output_rules.specs.Outputs.{strippedBlock, reportedBlock, explainedBlock, checkedList, judgedBlock, writtenBody}
 use Rattle.command_output_rules.proofs.Unfolding.{opened}
@@ -31,6 +36,7 @@ use Rattle.command_laws.specs.LastLine.{numberOf, lineNumber, lastLine, Tells}
 use Rattle.command_laws.proofs.AsAnswered as rooms
 use Rattle.command_laws.proofs.LastLines as last-lines
 use Rattle.command_laws.proofs.LastLineTells as tells
+use Rattle.command_laws.proofs.LogTells as logs
 
 -- ==== every last line
 
@@ -46,6 +52,23 @@ module _ (block list old : List ℕ) where
 
   pub strip-not-6 : 65536 ≤ length old → strip block list (length old) .number ≡ 6 → ⊥
   strip-not-6 = rooms.strip-room block list (length old)
+
+  -- ==== log LIST, which `strip --log LIST` asks for
+
+  -- Once what it logs has gone it makes what `strip` makes, so what is said above holds of it; else it ends as `Unwritten` (74), and there is no output. It logs a line for each field
+  -- that goes where stripping answers 0, and nothing where it refuses; all of that fits the buffer for it, and no byte of it but LF is outside of 32 to 126
+  pub log-done : strip block list (length old) .number ≡ 0 → logOf block list ≡ linesBy (marksFor block list) 0 (fields block .items)
+  log-done = logs.log-done block list (length old)
+
+  pub log-refused : 65536 ≤ length old → (strip block list (length old) .number ≡ 0 → ⊥) → logOf block list ≡ []
+  log-refused = logs.log-refused block list (length old)
+
+  pub log-fits : length (logOf block list) ≤ 229377
+  log-fits = texts.log-fits block list
+
+  pub log-plain : Bytes block → (k : ℕ) → k < length (logOf block list)
+      → (getD (logOf block list) k 0 ≡ 10) ⊎ ((32 ≤ getD (logOf block list) k 0) × (getD (logOf block list) k 0 ≤ 126))
+  log-plain = texts.log-plain block list
 
   -- ==== report LIST
 
@@ -103,6 +126,10 @@ strip-refusal : lastLine (strippedBlock (bytes "To: b\r\nCc\r\n") own (bytes "."
     ≡ bytes "orbendash: 3: an empty line, a first line that starts with space or tab, or a field without name or colon, at 7\n"
 unfolding says
 strip-refusal = refl
+
+log-instance : logOf (bytes "To: b\r\nAuthentication-Results: a; 100%\r\n") own ≡ bytes "orbendash: goes: 2: Authentication-Results:%20a;%20100%25%0D%0A\n"
+unfolding examples.opened
+log-instance = refl
 
 report-refusal : lastLine (reportedBlock (bytes "To: b\r\nCc") own (bytes ".")) true own
     ≡ bytes "orbendash: 2: a CR without LF, an LF without CR, or a last line without CRLF, at 9\n"
