@@ -26,6 +26,9 @@ use Rattle.strip_rules.proofs.Examples as strip-opened
 use Rattle.strip_laws.proofs.StripTheorems as strip-laws
 use Rattle.strip_laws.proofs.ByFields as strip-fields
 use Rattle.strip_laws.proofs.Numbers as numbers-of-strip
+use Rattle.blockreport_rules.specs.declared.Detail.{Detail}
+use Rattle.blockreport_laws.proofs.RepeatedEntries as blocks-repeated
+use Rattle.host_whose_struct.proofs.RepeatedEntries as whose-again
 use Rattle.arc_rules.specs.Chain.{outcome, built, failed, validFor, passes, oldestPass}
 use Rattle.arc_rules.specs.declared.Judged.{Judged}
 use Rattle.arc_rules.specs.Terms.{Known as KnownFields}
@@ -37,7 +40,7 @@ use Rattle.arc_laws.proofs.Numbers as numbers-of-judge
 use Rattle.arc_laws.proofs.BuiltExactly as judge-laws
 use Rattle.arc_laws.proofs.ReasonsExactly as reason-laws
 use Rattle.promises.specs.Exactly.{Exactly}
-use Rattle.promises.specs.Calls.{strips, reports, judges}
+use Rattle.promises.specs.Calls.{strips, reports, blockReports, tells, judges}
 
 -- ==== the report of a field: the one RFC 8601 and document 01 give
 
@@ -154,6 +157,19 @@ strip-repeated = strip-laws.strip-repeated
 repeated-example : (block : List ℕ) (room : ℕ) → strip block (bytes "a\nb\na\n") room ≡ strip block (bytes "a\nb\n") room
 unfolding strip-opened.opened
 repeated-example block room = strip-repeated block (bytes "a\nb\n") (bytes "a\nb\na\n") room (bytes "a") [] (bytes "b" ∷ []) [] refl refl
+
+-- nor in the report of a block, nor in whose a field is
+module _ (list list′ e : List ℕ) (xs ys zs : List (List ℕ)) (once : ownList list ≡ record { items = xs ++ (e ∷ (ys ++ zs)); number = 0; place = 0 })
+    (again : ownList list′ ≡ record { items = xs ++ (e ∷ (ys ++ (e ∷ zs))); number = 0; place = 0 }) where
+  pub block-report-repeated : (detail : Detail) (block old : List ℕ) → blockReports detail block list′ old ≡ blockReports detail block list old
+  block-report-repeated detail block old = rw (blocks-repeated.report-repeated detail block list list′ (length old) e xs ys zs once again)
+
+  pub whose-repeated : (body : List ℕ) → tells list′ body ≡ tells list body
+  whose-repeated body = whose-again.whose-repeated body list list′ e xs ys zs once again
+
+repeated-whose-example : (body : List ℕ) → tells (bytes "a\nb\na\n") body ≡ tells (bytes "a\nb\n") body
+unfolding strip-opened.opened
+repeated-whose-example body = whose-repeated (bytes "a\nb\n") (bytes "a\nb\na\n") (bytes "a") [] (bytes "b" ∷ []) [] refl refl body
 
 -- ==== the judgement of a chain: built
 
