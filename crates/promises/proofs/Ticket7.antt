@@ -1,16 +1,21 @@
 -- 02, ticket [7], "Stripping in two steps": what is promised of the two calls together. When each is refused is in Demand1Steps.
 use Prim.Native.Nat.{ℕ, zero, suc, _≤_}
-use mathlib.Core.Path.{_≡_, refl, ap}
+use native.Mathlib.Omega.{arith}
+use mathlib.Core.Path.{_≡_, refl, ap, _∙_}
 use mathlib.Core.Bool.{Bool, cond}
 use mathlib.Core.List.{List, [], _∷_, _++_, map}
+use lib.Dec.{lit≤}
 use lib.ListN.{length, take, drop}
 use lib.Seq.{take-append-seam}
 use Rattle.base_readers.specs.Texts.{bytes}
-use Rattle.block_rules.specs.Fields.{Field, fieldLimit, fields}
+use Rattle.block_rules.specs.Fields.{Field, fieldLimit, fields, bytesOf}
 use Rattle.ownlist_rules.specs.OwnList.{ownList}
 use Rattle.ownlist_rules.specs.Listed.{among}
 use Rattle.ownlist_rules.specs.Calls.{Known}
 use Rattle.strip_rules.specs.Strip.{isRemoved, strip}
+use Rattle.strip_rules.specs.ByFields.{Kept}
+use Rattle.strip_rules.specs.Terms.{keptFields}
+use Rattle.strip_laws.proofs.Numbers as numbers-of-strip
 use Rattle.strip_steps_rules.specs.Steps.{marksOf, mark}
 use Rattle.strip_steps_rules.specs.Pair.{pair}
 use Rattle.strip_steps_rules.specs.Terms.{marksFor}
@@ -19,6 +24,7 @@ use Rattle.strip_steps_laws.proofs.Marks as marks-laws
 use Rattle.strip_steps_laws.proofs.Numbers as numbers
 use Rattle.strip_steps_laws.proofs.PairStrips as pairs
 use Rattle.promises.specs.Calls.{strips, marks, copies, marksThenCopies}
+use Rattle.promises.proofs.Demand2.{strip-by-fields, strip-twice}
 
 -- ==== one call writes a byte for each field in order, 1 if it goes, else 0
 
@@ -104,4 +110,46 @@ calls-example :
 unfolding steps.opened
 calls-example = refl
 
--- so demand 2 holds of the pair: its theorems on stripping (Demand2: `strip-..`) speak of what the two calls give together
+-- ==== so demand 2 holds of the pair: it removes exactly the fields that Demand2 says, and stripping twice removes nothing more
+
+module _ (block list first old : List ℕ) (roomy : marks block list first .answer .number ≡ 6 → ⊥)
+    (z : marksThenCopies block list first old .answer .number ≡ 0) where
+  is : marksThenCopies block list first old ≡ strips block list old
+  is = calls-strip block list first old roomy
+
+  done : strips block list old .answer .number ≡ 0
+  done = rw is at z
+
+  -- what the pair left in front
+  abbrev kept : List ℕ
+  kept = take (marksThenCopies block list first old .answer .kept) (marksThenCopies block list first old .left)
+
+  kept-is : kept ≡ strip block list (length old) .written
+  kept-is =
+      let w = numbers-of-strip.zero-when block list (length old) done in
+      let e = numbers-of-strip.when-zero block list (length old) (w .0) (w .1) in
+      rw (is, e) (take-append-seam (bytesOf (keptFields block list)) (drop (length (bytesOf (keptFields block list))) old))
+
+  -- Stripping removes exactly the Authentication-Results fields whose identifier is on our own list or can't be read, and keeps every other byte in order
+  pub pair-by-fields : (bytesOf (fields block .items) ≡ block) × (Kept (ownList list .items) (fields block .items) (fields kept .items))
+  pair-by-fields = let d = strip-by-fields block list old done in (d .0, rw kept-is (d .1 .0))
+
+  -- stripping the stripped block with the same list, and room for it, gives the same bytes and removes nothing
+  pub pair-twice : (first′ old′ : List ℕ) → (marks kept list first′ .answer .number ≡ 6 → ⊥)
+      → marksThenCopies block list first old .answer .kept ≤ length old′
+      → marksThenCopies kept list first′ old′
+      ≡ record {
+        answer = record { number = 0; place = 0; kept = marksThenCopies block list first old .answer .kept; removed = 0; fields = 0 };
+        left = kept ++ drop (length kept) old′;
+      }
+  pair-twice first′ old′ room′ h =
+      let t = strip-twice block list old done (length old′) (rw is at h) in
+      calls-strip kept list first′ old′ room′ ∙ rw (kept-is, t, is)
+
+twice-example :
+    marksThenCopies (bytes "A: b\r\nAuthentication-Results: c\r\n") (bytes "a\n") (bytes "..") (bytes ".................................!")
+    ≡ record { answer = record { number = 0; place = 0; kept = 33; removed = 0; fields = 0 }; left = bytes "A: b\r\nAuthentication-Results: c\r\n!" }
+unfolding steps.opened
+twice-example =
+    pair-twice block-example (bytes "a\n") (bytes ".....") (bytes "..................................") (λ e. omega (arith, e)) refl (bytes "..")
+    (bytes ".................................!") (λ e. omega (arith, e)) (lit≤ tt)
