@@ -8,3 +8,4 @@ pub mod Ticket1
 pub mod Ticket2
 pub mod Ticket3
 pub mod Ticket7
+pub mod Ticket14

@@ -124,7 +124,7 @@ module _ (block list first old : List ℕ) (roomy : marks block list first .answ
   abbrev kept : List ℕ
   kept = take (marksThenCopies block list first old .answer .kept) (marksThenCopies block list first old .left)
 
-  kept-is : kept ≡ strip block list (length old) .written
+  pub kept-is : kept ≡ strip block list (length old) .written
   kept-is =
       let w = numbers-of-strip.zero-when block list (length old) done in
       let e = numbers-of-strip.when-zero block list (length old) (w .0) (w .1) in

@@ -4,6 +4,8 @@
 //! `ORBENDASH_SEED` sets the seed, `ORBENDASH_CASES` how many inputs are generated in all.
 
 mod common;
+#[path = "differential/ownfield.rs"]
+mod ownfield;
 #[path = "differential/steps.rs"]
 mod steps;
 #[path = "differential/write.rs"]
