@@ -18,6 +18,8 @@
 //   5  the seal at 1 hasn't cv none, or a later one hasn't cv pass
 // The status is 0 (none), 1 (pass) or 2 (fail); `oldest` is the oldest-pass, which there is exactly where the status
 // is pass.
+#![tactic(auto)]
+
 ghost use Rattle.std.specs.Prelude.{◌≡◌, cond, ◌≤◌, ◌<◌, ltb, length, take};
 ghost use Rattle.lexis_rules.specs.Limits.{byte_limit};
 ghost use Rattle.arc_rules.specs.Chain.{column, first, sealed, placed, noted, any_empty, prescribed, judged, judge};

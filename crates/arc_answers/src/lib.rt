@@ -1,4 +1,6 @@
 // The answer of a chain: built, and what the verdicts make of it, or failed.
+#![tactic(auto)]
+
 ghost use Rattle.std.specs.Prelude.{◌≡◌, ◌<◌};
 ghost use Rattle.arc_rules.specs.Chain.{failed, built, seal_good, all, valid_for, passes, oldest_pass, blank, judged};
 ghost use Rattle.arc_rules.specs.Answers.{answer_of};

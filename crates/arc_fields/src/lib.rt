@@ -1,4 +1,6 @@
 // The instance at the front of the body of an ARC field (RFC 8617, 4.2.1).
+#![tactic(auto)]
+
 ghost use Rattle.std.specs.Prelude.{◌≡◌, true, ◌+◌, ◌-◌, drop, length};
 ghost use Rattle.base_readers.specs.Texts.{within};
 ghost use Rattle.base_readers.specs.Readers.{run};

@@ -1,1 +1,2 @@
 // The laws and theorems of ARC chains; no code.
+#![tactic(auto)]

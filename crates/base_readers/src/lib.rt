@@ -1,6 +1,8 @@
 // The combinators that every definition of the project is made of, and their laws (specs/, proofs/). The code is what every
 // loop over a slice asks: `byte` answers the byte at a place, `is_at` whether it is a given one, `rest` how much is left. Any place may be
 // asked for, also past the end.
+#![tactic(auto)]
+
 ghost use Rattle.std.specs.Prelude.{◌≡◌, ◌-◌, eqb, drop, get_or};
 
 // The byte `k` past `at`, and 0 past the end.

@@ -5,6 +5,8 @@
 //   3  an empty line, a first line starting with space or tab, or a field that lacks name or colon: the start of the line
 //   4  a 513th field: its start
 // A block of more than 65,536 bytes is the caller's to refuse (`lexis_limits::too_long`).
+#![tactic(auto)]
+
 ghost use Rattle.std.specs.Prelude.{◌≡◌, ◌+◌, drop};
 ghost use Rattle.lexis_rules.specs.Bytes.{in_class};
 ghost use Rattle.block_rules.specs.Fields.{name, name_colon};

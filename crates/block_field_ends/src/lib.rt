@@ -2,6 +2,8 @@
 //
 // `whole_end` answers the place behind the field's last CRLF, and the place itself where a CR stands without LF, an LF without CR, or the last
 // line has no CRLF. What stands in the lines, name and colon too, is not looked at.
+#![tactic(auto)]
+
 ghost use Rattle.std.specs.Prelude.{◌≡◌, false, ◌||◌, eqb, ◌+◌, ◌≤◌, length, drop};
 ghost use Rattle.block_field_ends.specs.Ends.{whole};
 ghost use Rattle.block_field_ends.specs.Internal.{broken, end_or, Onward};

@@ -1,4 +1,6 @@
 // The lines of a header block: where a line ends, and where the folded lines behind it do.
+#![tactic(auto)]
+
 ghost use Rattle.std.specs.Prelude.{◌≡◌, false, ◌+◌, ◌≤◌, length, drop, get_or};
 ghost use Rattle.base_readers.specs.Readers.{many};
 ghost use Rattle.base_readers.specs.Places.{Reaches};

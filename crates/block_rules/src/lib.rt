@@ -1,1 +1,2 @@
 // Lines, fields and names of a header block: definitions and laws; no code.
+#![tactic(auto)]

@@ -11,6 +11,8 @@
 //
 // Cost: since a place may be made up, every step goes over the block from the front, up to the field that it gives; so does `passed`, which
 // has to find the field's end. A host that has a field goes on by `moved` to its end, which costs nothing by itself.
+#![tactic(auto)]
+
 ghost use Rattle.std.specs.Prelude.{◌≡◌};
 ghost use Rattle.block_walk_rules.specs.Steps.{step_from, past_from};
 

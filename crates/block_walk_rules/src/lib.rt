@@ -1,4 +1,5 @@
 // What the walking reader gives: definitions and theorems. Of code there is only the type of an answer.
+#![tactic(auto)]
 
 // What a step gives. A field runs from `start` up to `end`, its last CRLF included; its name from `start` up to `name_end`, its body from
 // `body_start` up to two before `end`.

@@ -13,6 +13,8 @@
 //   4  a 513th field: its start
 //   6  `out` is too short: the bytes needed
 // tried in this order. A refusal writes nothing and returns 0 bytes written; bytes past those written stay unchanged.
+#![tactic(auto)]
+
 ghost use Rattle.std.specs.Prelude.{◌≡◌, ◌≤◌, length};
 ghost use Rattle.lexis_rules.specs.Limits.{byte_limit};
 ghost use Rattle.ownlist_rules.specs.OwnList.{own_list};

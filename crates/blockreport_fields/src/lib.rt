@@ -3,6 +3,8 @@
 //
 // The writers take a body and a buffer of any length. A body of more than 65,536 bytes has a line with number 1 and no report. Of a line as much is
 // stored as there is room for; a report is stored where there is room for all of it.
+#![tactic(auto)]
+
 ghost use Rattle.std.specs.Prelude.{◌≡◌, ◌+◌, min, length};
 ghost use Rattle.base_sequences.specs.Stored.{cap, Clipped};
 ghost use Rattle.base_readers.specs.Lines.{lines_of};

@@ -1,1 +1,2 @@
 // The laws and theorems of the report of a whole header block; no code.
+#![tactic(auto)]

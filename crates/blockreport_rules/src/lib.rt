@@ -1,7 +1,8 @@
 // The report of a header block: definitions and theorems. Of code there are only the types of what is asked for and of an answer.
+#![tactic(auto)]
 
 // What is told of a field. `Reported`: its line and the report of its body. `Identified`: also the identifier of a field that answers 9, which has no report.
-#[derive(Drop)]
+#[derive(Clone, Copy)]
 pub enum Detail {
     Reported,
     Identified,

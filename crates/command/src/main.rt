@@ -10,6 +10,8 @@
 // it ended (`command_message`): with the numbers of 01 and 02, or 64 for wrong usage, 66 for a list that can't be opened or read, 70 for a failure
 // of the program, 74 for an input that can't be read, or not whole, or an output or a log that can't be written; 0 only where all of the output has been
 // written. `bin/orbendash` takes the exit status from that line and takes its absence for a failure, so nothing that goes wrong on the way can look like success.
+#![tactic(auto)]
+
 use command_files::Opened;
 use command_output_rules::Made;
 use command_rules::{Asked, Ending};

@@ -2,6 +2,8 @@
 //
 // They stand in a crate of their own because an array that a call returns costs the check of a program nothing, and one of its own costs by
 // its length.
+#![tactic(auto)]
+
 ghost use Rattle.std.specs.Prelude.{◌≡◌, length, replicate};
 
 use block::Walk;

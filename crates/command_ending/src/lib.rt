@@ -3,6 +3,8 @@
 //   made_of(number, refusal, size)   what a call makes that answered this number and wrote so many bytes
 //   said_of(size, room)              what words make that have so many bytes, in a buffer with this room
 //   ending_after(made, went)         how the command ends
+#![tactic(auto)]
+
 ghost use Rattle.std.specs.Prelude.{◌≡◌};
 ghost use Rattle.command_output_rules.specs.Outputs.{made_of, said_of, ending_after};
 

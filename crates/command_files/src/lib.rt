@@ -11,6 +11,8 @@
 //
 // The kit's `io::read_full` takes a read that fails for the end of the input, so it can't be used here: a block that was cut short must never
 // look like a whole one. A call that a signal interrupts (EINTR) is made again; any other failure is told.
+#![tactic(auto)]
+
 ghost use Rattle.std.specs.Prelude.{◌≡◌, length};
 ghost use Rattle.command_files.specs.Transfers.{turn_of, Taken, Gone, Found};
 

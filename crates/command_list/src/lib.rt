@@ -5,6 +5,8 @@
 //
 // A writer stores as much of its text as there is room for in `out` from `to` on, changes no other byte, and returns the place after the whole text, at
 // most the largest place, which no buffer reaches. Every byte of an entry is written as in a report, so none can end a line.
+#![tactic(auto)]
+
 ghost use Rattle.std.specs.Prelude.{◌≡◌, ◌++◌, ◌+◌, min, length};
 ghost use Rattle.base_sequences.specs.Stored.{Clipped};
 ghost use Rattle.base_readers.specs.Lines.{lines_of};

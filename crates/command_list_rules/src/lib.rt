@@ -1,8 +1,9 @@
 // What the command notices of our own list, and what `check` says of it: definitions, worked examples and how long the texts are. Of code there
 // are only the types of what is noticed and of what is said.
+#![tactic(auto)]
 
 // What is noticed of an entry of a good list.
-#[derive(Drop)]
+#[derive(Clone, Copy)]
 pub enum Notice {
     // It begins with a byte order mark.
     Mark,
@@ -17,7 +18,7 @@ pub enum Notice {
 }
 
 // What is said of the entries of a list.
-#[derive(Drop)]
+#[derive(Clone, Copy)]
 pub enum Said {
     // How each is compared.
     Compared,

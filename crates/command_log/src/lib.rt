@@ -4,6 +4,8 @@
 //
 // It stores as much of the text as there is room for at the front of `out`, changes no other byte, and returns the length of the whole text, at most the
 // largest place, which no buffer reaches. Every byte of a field is written as in a report, so none can end a line.
+#![tactic(auto)]
+
 ghost use Rattle.base_sequences.specs.Stored.{Clipped};
 ghost use Rattle.block_rules.specs.Fields.{fields};
 ghost use Rattle.command_log_rules.specs.Log.{goes_line, line_by, lines_by, log_of};

@@ -2,6 +2,8 @@
 //
 // A writer is handed a buffer and a place in it, any place. It stores as much of the words as there is room for from there on, changes no other
 // byte, and returns the place after all of them, at most the largest place, which no buffer reaches.
+#![tactic(auto)]
+
 ghost use Rattle.std.specs.Prelude.{◌≡◌};
 ghost use Rattle.base_sequences.specs.Stored.{Clipped};
 ghost use Rattle.text_write.specs.Phrases.{phrase};

@@ -6,6 +6,8 @@
 //   orbendash: 0: done
 // where all of the output has been written. It is handed a buffer and a place in it, any place, stores as much of the line as there is room
 // for from there on, changes no other byte, and returns the place after the whole line, at most the largest place, which no buffer reaches.
+#![tactic(auto)]
+
 ghost use Rattle.std.specs.Prelude.{◌≡◌};
 ghost use Rattle.base_sequences.specs.Stored.{Clipped};
 ghost use Rattle.text_write.specs.Phrases.{phrase};

@@ -1,5 +1,6 @@
 // What the command is asked for by its words, and the one line on standard error with which it ends: definitions and laws. Of code there are
 // only the types of the two.
+#![tactic(auto)]
 
 // What the words of a call ask for.
 #[derive(Drop)]

@@ -1,6 +1,8 @@
 // How many sets the ARC chain of a block has, for a person whose verdicts are refused with 10.
 //
 // A refusal tells zero counts (01, Answer numbers), so the chain is judged by more and more verdicts, all 0, until they are as many as it has sets.
+#![tactic(auto)]
+
 ghost use Rattle.std.specs.Prelude.{◌≡◌};
 ghost use Rattle.command_sets.specs.Sets.{sets_of};
 

@@ -7,6 +7,8 @@
 //   check_list(list, out)             how the entries of our own list are compared, and what is noticed of them
 //   judge_block(block, digits, out)   what the ARC chain of a block says by the verdicts that these digits say
 //   write_body(lines, out)            the body that has these lines as its report
+#![tactic(auto)]
+
 ghost use Rattle.std.specs.Prelude.{◌≡◌, map, length};
 ghost use Rattle.strip_rules.specs.Strip as stripping;
 ghost use Rattle.strip_rules.specs.Answers as stripped;

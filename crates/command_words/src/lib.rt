@@ -1,4 +1,6 @@
 // What the words of a call ask for.
+#![tactic(auto)]
+
 ghost use Rattle.std.specs.Prelude.{◌≡◌};
 ghost use Rattle.command_rules.specs.Words.{asked};
 

@@ -3,6 +3,8 @@
 // `put_explained(lines, out, to)` is handed the lines that `blockreport::report_block` writes, any bytes, and says them in words (`explained` in
 // explain_rules). It stores as much of that as there is room for in `out` from `to` on, changes no other byte, and returns the place after the
 // whole text, at most the largest place, which no buffer reaches. Every byte that it stores is LF or one of 32 to 126.
+#![tactic(auto)]
+
 ghost use Rattle.std.specs.Prelude.{◌≡◌, cond, [], ◌∷◌, ◌+◌, min, length, drop};
 ghost use Rattle.base_sequences.specs.Stored.{Clipped};
 ghost use Rattle.base_readers.specs.Lines.{lines_of};

@@ -3,6 +3,8 @@
 //
 // Both are handed a slice and any place in it: `byte_at(s, at)` is the byte that comes next, 0 past the end, and `more_at(s, at)` how many bytes
 // behind its first one stand for it.
+#![tactic(auto)]
+
 ghost use Rattle.std.specs.Prelude.{◌≡◌, drop};
 ghost use Rattle.explain_rules.specs.Texts.{is_code, code_byte, code_more};
 ghost use Rattle.write_rules.specs.Entries.{hex_or};

@@ -4,6 +4,8 @@
 // `kind_of_line(l)` is what the line is, by its first column; `until(s, at, b)` is the next place of a byte. `put_labelled` is handed a buffer and a
 // place in it, any place. It stores as much of its text as there is room for from there on, changes no other byte, and returns the place after
 // the whole text, at most the largest place, which no buffer reaches.
+#![tactic(auto)]
+
 ghost use Rattle.std.specs.Prelude.{◌≡◌, [], ◌∷◌, ◌++◌, ◌+◌, drop};
 ghost use Rattle.base_sequences.specs.Stored.{Clipped};
 ghost use Rattle.base_readers.specs.Readers.{run};

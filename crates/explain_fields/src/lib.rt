@@ -2,6 +2,8 @@
 //
 // `put_field(l, out, to)` says the line of a field by its columns behind the first, any bytes, in words (`field_words` in explain_rules). It stores as much of that as there is
 // room for in `out` from `to` on, changes no other byte, and returns the place after the whole text, at most the largest place, which no buffer reaches.
+#![tactic(auto)]
+
 ghost use Rattle.std.specs.Prelude.{◌≡◌, [], ◌∷◌, ◌++◌};
 ghost use Rattle.base_sequences.specs.Stored.{Clipped};
 ghost use Rattle.base_readers.specs.Texts.{bytes, same};

@@ -2,6 +2,8 @@
 //
 // `put_line(l, out, to)` says a line, any bytes, in words (`line_words` in explain_rules). It stores as much of that as there is room for in `out`
 // from `to` on, changes no other byte, and returns the place after the whole text, at most the largest place, which no buffer reaches.
+#![tactic(auto)]
+
 ghost use Rattle.std.specs.Prelude.{◌++◌};
 ghost use Rattle.base_sequences.specs.Stored.{Clipped};
 ghost use Rattle.text_write.specs.Phrases.{phrase};

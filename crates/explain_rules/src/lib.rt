@@ -1,4 +1,5 @@
 // What the report of a block says to a person, in words: definitions and laws. Of code there is only the type of what a line is.
+#![tactic(auto)]
 
 // What a line of the report of a block is, by its first column.
 #[derive(Drop)]

@@ -3,6 +3,8 @@
 // `put_text(part, out, to)` undoes the report's escaping of a column, any bytes, and shows a plain word as it is and any other text between quotes
 // (`shown` in explain_rules). It stores as much of that as there is room for in `out` from `to` on, changes no other byte, and returns the place
 // after the whole text, at most the largest place, which no buffer reaches.
+#![tactic(auto)]
+
 ghost use Rattle.std.specs.Prelude.{◌≡◌, ◌||◌, [], ◌∷◌, ◌/◌, ◌%◌, eqb};
 ghost use Rattle.base_sequences.specs.Stored.{Clipped};
 ghost use Rattle.base_readers.specs.Texts.{within};

@@ -1,6 +1,8 @@
 // The structs that the functions for hosts return, and how they are made from answers.
 //
 // A struct is returned by value. On a refusal all but number and place are 0.
+#![tactic(auto)]
+
 ghost use Rattle.std.specs.Prelude.{◌≡◌};
 ghost use Rattle.host_structs.specs.Faces.{next_face};
 ghost use Rattle.host_structs.specs.Made.{marked_face, copied_face, reported_face, written_face};

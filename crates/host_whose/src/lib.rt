@@ -1,4 +1,6 @@
 // Whose the identifier of a field body is, by a list that is checked first.
+#![tactic(auto)]
+
 ghost use Rattle.std.specs.Prelude.{◌≡◌};
 ghost use Rattle.host_whose_struct.specs.Whose.{whose};
 

@@ -1,6 +1,8 @@
 // The struct that `orbendash_whose` returns, and how it is made.
 //
 // A struct is returned by value. On a refusal all but number and place are 0.
+#![tactic(auto)]
+
 ghost use Rattle.std.specs.Prelude.{◌≡◌};
 ghost use Rattle.host_whose_struct.specs.Whose.{owner_code, refuse_whose, tell_whose};
 

@@ -2,6 +2,8 @@
 //
 // Where the identifier can't be read nothing further is tried: that is number 7 where a report is asked for, and the field goes where a
 // block is stripped.
+#![tactic(auto)]
+
 ghost use Rattle.std.specs.Prelude.{◌≡◌, ◌+◌, drop};
 ghost use Rattle.identifier_rules.specs.Identifier.{identifier_byte, identifier_token};
 ghost use Rattle.identifier.specs.Answers.{readable, identifier_at};

@@ -2,6 +2,8 @@
 //
 // `put_judgement` is handed a buffer and a place in it, any place. It stores as much of its text as there is room for from there on, changes no
 // other byte, and returns the place after the whole text, at most the largest place, which no buffer reaches.
+#![tactic(auto)]
+
 ghost use Rattle.std.specs.Prelude.{◌≡◌, map};
 ghost use Rattle.base_sequences.specs.Stored.{Clipped};
 ghost use Rattle.judgement_rules.specs.Judgement.{verdict_of, judgement};

@@ -2,6 +2,8 @@
 //
 // The functions that write are handed a buffer and a place in it, any place. They store as much of their text as there is room for from there on, change no
 // other byte, and return the place after the whole text, at most the largest place, which no buffer reaches.
+#![tactic(auto)]
+
 ghost use Rattle.std.specs.Prelude.{◌∷◌};
 ghost use Rattle.base_sequences.specs.Stored.{Clipped};
 ghost use Rattle.text_decimals_rules.specs.Decimals.{decimal};

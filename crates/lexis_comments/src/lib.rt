@@ -1,6 +1,8 @@
 // Comments, one inside the other: `comment_end` answers where one ends.
 //
 // It is handed a slice and a place, any place, also past the end, and answers the place itself where no comment starts there.
+#![tactic(auto)]
+
 ghost use Rattle.std.specs.Prelude.{◌≡◌, ◌+◌, drop};
 ghost use Rattle.lexis_rules.specs.Limits.{depth_limit};
 ghost use Rattle.lexis_comments.specs.Internal.{fresh_at};

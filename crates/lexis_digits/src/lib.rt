@@ -1,4 +1,6 @@
 // Digit runs, and the numbers that they tell.
+#![tactic(auto)]
+
 ghost use Rattle.std.specs.Prelude.{◌≡◌, false, true, ◌+◌, ◌-◌, ◌≤◌, drop};
 ghost use Rattle.lexis_rules.specs.Bytes.{in_class};
 ghost use Rattle.lexis_rules.specs.Pieces.{digits, leading, decimal};

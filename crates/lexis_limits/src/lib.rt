@@ -1,4 +1,6 @@
 // How many bytes a block or a field body may have, handed in or to be written: answer 1 (01, What the library is handed).
+#![tactic(auto)]
+
 ghost use Rattle.std.specs.Prelude.{◌≡◌, ltb, length};
 ghost use Rattle.lexis_rules.specs.Limits.{byte_limit};
 ghost use Rattle.lexis_limits.specs.Sizes.{size_of};

@@ -1,7 +1,8 @@
 // The small pieces of a field body: definitions and laws. Of code there are only the types that they name.
+#![tactic(auto)]
 
 // The classes of bytes (`in_class` in specs/Bytes.antt; the bytes of each are listed in proofs/ClassExamples.antt).
-#[derive(Drop)]
+#[derive(Clone, Copy)]
 pub enum Class {
     Blank,
     Opening,

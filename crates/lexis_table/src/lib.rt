@@ -1,6 +1,8 @@
 // Runs of bytes of a class, by a table of 256 entries (02, ticket [5]).
 //
 // The table is `lexis_table::table::entry`. So that it is compiled into the loop, `is_of` alone calls it.
+#![tactic(auto)]
+
 ghost use Rattle.std.specs.Prelude.{◌≡◌, ◌+◌, drop};
 ghost use Rattle.base_readers.specs.Readers.{run};
 ghost use Rattle.lexis_rules.specs.Bytes.{in_class};

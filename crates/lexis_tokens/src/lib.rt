@@ -2,6 +2,8 @@
 //
 // A reader is handed a slice and a place, any place, also past the end. It answers the place after the piece that starts there, and
 // the place itself where there is none.
+#![tactic(auto)]
+
 ghost use Rattle.std.specs.Prelude.{◌≡◌, ◌+◌, ◌-◌, drop};
 ghost use Rattle.lexis_rules.specs.Pieces.{token, quoted, keyword};
 ghost use Rattle.lexis_rules.specs.Answers.{value_at};

@@ -1,6 +1,8 @@
 // The face for hosts: functions for C and for Rust over the library's calls, with the same answers.
 //
 // A slice is a pointer and a length. The structs that are returned, and how they are made from answers, are those of `host_structs` and `host_whose_struct`.
+#![tactic(auto)]
+
 ghost use Rattle.std.specs.Prelude.{◌≡◌, length};
 ghost use Rattle.strip_rules.specs.Answers as copying;
 ghost use Rattle.strip_steps_rules.specs.Steps.{mark, copy};

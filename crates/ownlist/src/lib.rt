@@ -4,6 +4,8 @@
 // list once (`ownlist_spelled::spell_list`), finds where its lines end once (`ownlist_lines::ends::line_ends`) and asks the outcome (`whose_among`); a good list without two hyphens
 // in a row is its own spelling. `whose_spelled` finds the ends itself. A list is taken up to its first bad entry; whether it has one is the
 // caller's to ask first (`ownlist_check::check_list`).
+#![tactic(auto)]
+
 ghost use Rattle.std.specs.Prelude.{◌≡◌, drop};
 ghost use Rattle.lexis_rules.specs.Words.{quoted_text};
 ghost use Rattle.ownlist_rules.specs.OwnList.{own_list};

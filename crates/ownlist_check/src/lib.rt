@@ -1,4 +1,6 @@
 // Our own list of identifiers: its entries one after the other, and whether it is good (else number 5).
+#![tactic(auto)]
+
 ghost use Rattle.std.specs.Prelude.{◌≡◌, ◌+◌, drop};
 ghost use Rattle.ownlist_rules.specs.OwnList.{entry, own_list};
 ghost use Rattle.ownlist_check.specs.Steps.{fresh_entries, listed_at, checked_of};

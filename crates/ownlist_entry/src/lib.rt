@@ -1,4 +1,6 @@
 // The text of an entry of our own list, at any place of a slice, also past its end: the place after it, or the place itself where there is none.
+#![tactic(auto)]
+
 ghost use Rattle.std.specs.Prelude.{◌≡◌, ◌+◌, drop};
 ghost use Rattle.ownlist_rules.specs.OwnList.{entry_text};
 

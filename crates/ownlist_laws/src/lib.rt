@@ -1,1 +1,2 @@
 // The laws and theorems of our own list; no code.
+#![tactic(auto)]

@@ -1,4 +1,6 @@
 // Whether a text is one of the lines of our own list.
+#![tactic(auto)]
+
 ghost use Rattle.std.specs.Prelude.{◌≡◌, ◌≤◌, ◌<◌, min, length, get_or};
 ghost use Rattle.base_sequences.specs.Spans.{span};
 ghost use Rattle.lexis_rules.specs.Bytes.{alike};

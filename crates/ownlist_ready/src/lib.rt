@@ -5,6 +5,8 @@
 //   AsItStands  the list has no two hyphens in a row, so no A-label: it is compared as it stands
 //   ToSpell     any other list has to be spelled first, once for all fields (`ownlist_spelled`)
 // It spells nothing itself, so that no buffer is cleared where none is needed.
+#![tactic(auto)]
+
 ghost use Rattle.std.specs.Prelude.{◌≡◌};
 ghost use Rattle.ownlist_ready.specs.Answers.{ready_of};
 

@@ -2,6 +2,8 @@
 //
 // A list is taken up to its first bad entry; whether it has one is the caller's to ask first (`ownlist_check::check_list`). A good list without two hyphens in a row is its own
 // spelling.
+#![tactic(auto)]
+
 ghost use Rattle.std.specs.Prelude.{[], ◌∷◌, ◌++◌, ◌≤◌, length};
 ghost use Rattle.base_sequences.specs.Stored.{Put};
 ghost use Rattle.punycode_rules.specs.Labels.{spelling};

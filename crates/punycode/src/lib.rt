@@ -5,6 +5,8 @@
 // which equals that of no list entry, is not written, and the answer is 1,021.
 // `decode` does the same for what stands behind the prefix of one label. It answers the length of the code points in UTF-8, that it doesn't
 // decode, or that it is longer than 1,020 bytes.
+#![tactic(auto)]
+
 ghost use Rattle.std.specs.Prelude.{◌≡◌, ◌+◌, length};
 ghost use Rattle.punycode.specs.Answers.{decode_answer, decode_stored, spell_answer, spell_stored};
 

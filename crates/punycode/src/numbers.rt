@@ -8,7 +8,7 @@ ghost use Rattle.punycode_rules.specs.Labels.{spelling_limit};
 ghost use Rattle.punycode.specs.Internal.{limit, last_of, more_of, Small};
 
 // The variables of the decoding procedure (RFC 3492, section 6.2).
-#[derive(Drop)]
+#[derive(Clone, Copy)]
 pub(crate) struct Numbers {
     pub(crate) n: u64,
     pub(crate) i: u64,

@@ -1,5 +1,7 @@
 // Whether two hyphens stand in a row in a text. A label that starts with xn-- has them, so a text without them is its own spelling
 // (`spelling-single-hyphens` in punycode_laws/proofs/SpellingTheorems.antt), and nothing else need be asked.
+#![tactic(auto)]
+
 ghost use Rattle.std.specs.Prelude.{◌≡◌, false, ◌&&◌, ◌+◌, ◌<◌, eqb, length, drop};
 ghost use Rattle.punycode_rules.specs.Labels.{double_hyphen};
 

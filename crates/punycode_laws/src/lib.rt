@@ -1,1 +1,2 @@
 // The laws and theorems of Punycode and of texts with U-labels; no code.
+#![tactic(auto)]

@@ -9,6 +9,8 @@
 //   6  `out` is too short: the bytes needed
 // tried in this order (1, then 7, 8 or 9, then 6 where it would have been 0 or 8). A refusal, any of these but 0 and 8, writes nothing and
 // returns zero counts; bytes past those written stay unchanged.
+#![tactic(auto)]
+
 ghost use Rattle.std.specs.Prelude.{◌≡◌, [], ◌≤◌, ◌^◌, length, drop};
 ghost use Rattle.base_sequences.specs.Stored.{cap};
 ghost use Rattle.base_readers.specs.Texts.{bytes};

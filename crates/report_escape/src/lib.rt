@@ -3,6 +3,8 @@
 // A writer is handed a buffer and a place in it, any place. It stores as much of the text as there is room for from there on, changes no
 // other byte, and returns the place after the whole text, at most the largest place, which no buffer reaches. Run on an empty buffer it only
 // measures.
+#![tactic(auto)]
+
 ghost use Rattle.std.specs.Prelude.{◌≡◌, false, true, ◌+◌, ◌≤◌, length, drop};
 ghost use Rattle.base_sequences.specs.Stored.{Clipped};
 ghost use Rattle.base_readers.specs.Readers.{run};

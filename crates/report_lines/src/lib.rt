@@ -5,6 +5,8 @@
 // writer is handed a buffer and a place in it, any place (`put_id` writes from the start). It stores as much of the line as there is room
 // for from there on, changes no other byte, and returns the place after the whole line, at most the largest place, which no buffer reaches.
 // Run on an empty buffer it only measures.
+#![tactic(auto)]
+
 ghost use Rattle.std.specs.Prelude.{◌≡◌, ◌∷◌, map};
 ghost use Rattle.base_sequences.specs.Stored.{Clipped};
 ghost use Rattle.lexis_rules.specs.Bytes.{lower};

@@ -6,6 +6,8 @@
 //
 // The space behind each part is read once: with the place where a part ends (`at`, `end`) goes the place where the space behind it ends
 // (`gap`).
+#![tactic(auto)]
+
 ghost use Rattle.std.specs.Prelude.{◌≡◌, ◌&&◌};
 ghost use Rattle.std.proofs.lemmas.List.Edits.{sets};
 ghost use Rattle.base_sequences.specs.Spans.{span};

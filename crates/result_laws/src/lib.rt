@@ -1,1 +1,2 @@
 // The laws of one result of a body; no code.
+#![tactic(auto)]

@@ -1,4 +1,6 @@
 // A method, its version and its result (RFC 8601: methodspec), read at a place.
+#![tactic(auto)]
+
 ghost use Rattle.std.specs.Prelude.{◌≡◌};
 ghost use Rattle.result_method.specs.Methods.{method_version_at, method_at};
 

@@ -1,4 +1,6 @@
 // The parts of a result behind its method: reasons, and the labels of properties (RFC 8601: reasonspec, and propspec without its pvalue).
+#![tactic(auto)]
+
 ghost use Rattle.std.specs.Prelude.{◌≡◌, ◌+◌, drop};
 ghost use Rattle.result_parts.specs.Parts.{reason_word, stated_as, reason_from, label_from};
 

@@ -2,6 +2,8 @@
 //
 // A reader is handed a slice and a place, any place, also past the end. It answers the place after the separator and its space, and the place
 // itself where there is none.
+#![tactic(auto)]
+
 ghost use Rattle.std.specs.Prelude.{◌≡◌, ◌+◌, drop};
 ghost use Rattle.result_rules.specs.Results.{next};
 ghost use Rattle.result_separators.specs.Separators.{separated, separated_from};

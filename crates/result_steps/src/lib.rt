@@ -1,5 +1,7 @@
 // One result of a field body (RFC 8601: resinfo): its steps, read at places. Its grammar is in result_rules, its method in
 // result_method, its reason and the labels of its properties in result_parts, property values in result_values, the table in result_table.
+#![tactic(auto)]
+
 ghost use Rattle.std.specs.Prelude.{◌≡◌, drop};
 ghost use Rattle.result_steps.specs.Steps.{is_end, end_of, property_of, step_from};
 

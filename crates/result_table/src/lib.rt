@@ -2,6 +2,8 @@
 // 2.7.4; dmarc is RFC 7489's and arc RFC 8617's), and the four ptypes (RFC 8601, 2.3).
 //
 // A text that is asked for is bytes of the input as they stand there, of any length. It is compared with the names of a table without case.
+#![tactic(auto)]
+
 ghost use Rattle.std.specs.Prelude.{◌≡◌, true, map};
 ghost use Rattle.lexis_rules.specs.Bytes.{lower};
 ghost use Rattle.result_rules.specs.Table.{listed, tabled, table, ptypes};

@@ -3,6 +3,8 @@
 // A reader is handed a slice and a place, any place, also past the end. Where no property value starts there, or the one that starts is
 // bad, the answer is `Refused`: there is nothing else to try, and the body is not well-formed (number 9). Each byte is looked at a bounded
 // number of times.
+#![tactic(auto)]
+
 ghost use Rattle.std.specs.Prelude.{◌≡◌, true, ◌+◌, ◌≤◌, ◌<◌, length};
 ghost use Rattle.result_values.specs.Values.{mailbox_at, at_domain_at, address_at, quoted_at, value_at};
 

@@ -3,6 +3,8 @@
 // Two arguments make a case: the file of the block, and the verdicts, one decimal digit for each instance from 1, or "-" for none. A line has
 // the two arguments and then number, place, outcome, reason, field, instances, status and oldest, as `judge` returned them. A file that can't be
 // opened has `no file` on its line. At most 65,540 bytes of a block are read, which is enough on the far side of its limit.
+#![tactic(auto)]
+
 use arc_rules::Judged;
 use libc::STDOUT_FILENO;
 use sample_support::{arguments, lines};

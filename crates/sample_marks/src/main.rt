@@ -10,6 +10,8 @@
 //   check, changed                                as above, of the kept bytes
 // A file that can't be opened has `no file` on its line. At most 65,540 bytes of a block, 32,768 of a list and 1,024 of marks are read, and at most 65,540 are lent, which is
 // enough on the far side of each limit.
+#![tactic(auto)]
+
 use libc::STDOUT_FILENO;
 use sample_support::{arguments, lines};
 use strip_rules::Stripped;

@@ -13,6 +13,8 @@
 //
 // The lines that are expected (the file stdout) were not made by this program. They are the answers of a decoder in another language, written
 // from RFC 3492 and ticket [2] of document 02; where it decodes, it was held to a third one, and on the sample strings to the RFC's code points.
+#![tactic(auto)]
+
 use libc::STDOUT_FILENO;
 use punycode::{Decoded, Spelling};
 use sample_support::{arguments, lines};

@@ -13,6 +13,8 @@
 // The lines that are expected (the file stdout) were not made by this program. They are the answers of a model of the rules, in another
 // language, which its writers made from document 01 after they had read the definitions that are proved here; each was also held to an
 // answer worked out by hand.
+#![tactic(auto)]
+
 use libc::STDOUT_FILENO;
 use report_rules::Reported;
 use sample_support::{arguments, lines};

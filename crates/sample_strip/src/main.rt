@@ -7,6 +7,8 @@
 //   changed                                how many of the lent bytes past those are no longer 170; on a refusal that is of all lent bytes
 // A file that can't be opened has `no file` on its line. At most 65,540 bytes of a block and 32,768 of a list are read, and at most 65,540 are
 // lent, which is enough on the far side of each limit.
+#![tactic(auto)]
+
 use libc::STDOUT_FILENO;
 use sample_support::{arguments, lines};
 use strip_rules::Stripped;

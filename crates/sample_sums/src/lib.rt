@@ -1,4 +1,6 @@
 // What the programs that run cases tell of bytes: `adler` a sum, `changed` how many are not what stood there before.
+#![tactic(auto)]
+
 ghost use Rattle.std.specs.Prelude.{◌≡◌, cond, ◌<◌, eqb};
 ghost use Rattle.sample_sums.specs.Sums.{adler, changed};
 

@@ -4,6 +4,8 @@
 // `shown` writes bytes as visible text, `digits` the values of the digits in front of a text, each into a
 // lent buffer: as much is stored as there is room for, and the answer says how many bytes that is. `number_of` reads a number, cut at the most
 // that is asked for. `front` cuts a number of bytes to those that there are. Each takes any bytes and any numbers.
+#![tactic(auto)]
+
 ghost use Rattle.std.specs.Prelude.{◌≡◌, [], ◌∷◌, ◌+◌, ◌-◌, ◌*◌, ◌<◌, min, length};
 ghost use Rattle.base_readers.specs.Texts.{within};
 ghost use Rattle.sample_support.specs.Samples.{number, hex_digit, plain, shown, digits, Front, Filled};

@@ -14,6 +14,8 @@
 //
 // The lines that are expected (the file stdout) were not made by this program: they are the answers of a model of the ticket's rules in
 // another language.
+#![tactic(auto)]
+
 use libc::STDOUT_FILENO;
 use report_rules::Reported;
 use sample_support::{arguments, lines};

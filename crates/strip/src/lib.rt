@@ -12,6 +12,8 @@
 //   13  of `copy`: `marks` are not exactly the bytes that `mark` writes for this block and list: place 0
 //   6   `out` is too short: the bytes needed
 // tried in this order. A refusal writes nothing and returns zero counts; bytes past those written stay unchanged.
+#![tactic(auto)]
+
 ghost use Rattle.std.specs.Prelude.{◌≡◌, ◌≤◌, min, length};
 ghost use Rattle.strip_rules.specs.Answers as copied;
 ghost use Rattle.strip_steps_rules.specs.Steps.{mark, copy};

@@ -2,6 +2,8 @@
 //
 // `put_unmarked(s, stops, marks, out, start)` takes s cut at `stops`, any places, and marks, any bytes. Of the parts, one after the other from the front, it writes those whose
 // mark is 0 (also where there is no mark) from `start` on, as far as `out` reaches, and returns the place after all of them, at most the largest number.
+#![tactic(auto)]
+
 ghost use Rattle.base_sequences.specs.Stored.{Clipped};
 ghost use Rattle.strip_copy.specs.Unmarked.{unmarked};
 

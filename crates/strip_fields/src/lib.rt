@@ -2,6 +2,8 @@
 //
 // `sift(s, own, ends, marks, stops)` goes over a block once, by our own list as it is compared, and keeps for each field a mark, 1 if it goes, else 0, and where it ends,
 // as far as there is room for these. It answers the number and place of the walk, how many fields it came by, and bytes and number of those that go.
+#![tactic(auto)]
+
 ghost use Rattle.std.specs.Prelude.{◌≡◌, ◌&&◌};
 ghost use Rattle.base_readers.specs.Texts.{bytes};
 ghost use Rattle.lexis_rules.specs.Bytes.{alike};

@@ -1,1 +1,2 @@
 // The laws and theorems of stripping; no code.
+#![tactic(auto)]

@@ -7,6 +7,8 @@
 //   5  a bad list: the start of its first bad entry
 //   2 to 4  of the walk over the block (`block`), with their places
 // tried in this order. With 1 and 5 nothing is kept and all counts are 0.
+#![tactic(auto)]
+
 ghost use Rattle.std.specs.Prelude.{◌≡◌, ◌≤◌, length};
 ghost use Rattle.base_readers.specs.Lines.{lines_of};
 ghost use Rattle.block_rules.specs.Fields.{fields};

@@ -1,6 +1,8 @@
 // Rooms for a mark and a place of each field that a block may have, all zeros.
 //
 // They stand in a crate of their own because an array that a call returns costs the check of its caller nothing, and one of its own costs by its length.
+#![tactic(auto)]
+
 ghost use Rattle.std.specs.Prelude.{◌≡◌, length, replicate};
 
 use block::Walk;

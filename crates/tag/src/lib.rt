@@ -2,6 +2,8 @@
 //
 //   tag_at(s, at)        the tag behind the space at a place, by its places, or `Missing`
 //   name_end(s, at)      the end of the bytes of a name
+#![tactic(auto)]
+
 ghost use Rattle.std.specs.Prelude.{◌≡◌, ◌+◌, drop};
 ghost use Rattle.base_readers.specs.Readers.{run};
 ghost use Rattle.lexis_rules.specs.Bytes.{letter};

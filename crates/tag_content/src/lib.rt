@@ -3,6 +3,8 @@
 //   cv_after(cv, name, value)        the chain value behind one tag more
 //   ended(s, at, count, cv)          what a list is that has so many tags up to a place
 //   told(seal, s, places, cv)        what the names of a sound list say, for a seal or else for a signature
+#![tactic(auto)]
+
 ghost use Rattle.std.specs.Prelude.{◌≡◌};
 ghost use Rattle.tag_content.specs.Tests.{cv_after, ended_at, attempt_if, told_at};
 

@@ -4,6 +4,8 @@
 //
 // A name may stand once in a list. So the places of the names are put into a table: in order where they are few (`tag_list_ordered`), linked by
 // buckets where they are many (linked.rt).
+#![tactic(auto)]
+
 ghost use Rattle.std.specs.Prelude.{◌≡◌, ◌≤◌, ◌<◌, length, replicate};
 ghost use Rattle.lexis_rules.specs.Limits.{byte_limit};
 ghost use Rattle.tag_names.specs.Names.{Named, bucket_of};

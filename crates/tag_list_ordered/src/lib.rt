@@ -3,6 +3,8 @@
 //   try_list(seal, s, at, table)     the tag list of a seal, or else of a signature, from a place of a body on, or that the table is full
 //
 // A name may stand once in a list. So the places of the names are put into a table, in order (seen.rt).
+#![tactic(auto)]
+
 ghost use Rattle.std.specs.Prelude.{◌≡◌, ◌≤◌, ◌<◌, length, replicate};
 ghost use Rattle.lexis_rules.specs.Limits.{byte_limit};
 ghost use Rattle.tag_names.specs.Names.{Named};

@@ -4,6 +4,8 @@
 //   is_named(s, at, name)        whether it is this name
 //   wide(x), narrow(x)           the place that an entry of a table of names stands for, and the entry for a place
 //   bucket(name)                 a number below 32,768 that is made of the bytes of a name
+#![tactic(auto)]
+
 ghost use Rattle.std.specs.Prelude.{◌≡◌, ◌%◌, ◌<◌, drop};
 ghost use Rattle.base_readers.specs.Texts.{starts};
 ghost use Rattle.tag_rules.specs.Tags.{in_tag_name};

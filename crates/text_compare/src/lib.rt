@@ -1,4 +1,6 @@
 // Texts compared but for ASCII case, and bytes in lower case.
+#![tactic(auto)]
+
 ghost use Rattle.std.specs.Prelude.{◌≡◌, true, false, ◌+◌, ◌≤◌, eqb, length};
 ghost use Rattle.lexis_rules.specs.Bytes.{lower, alike};
 ghost use Rattle.text_compare.specs.Internal.{Compared};

@@ -1,1 +1,2 @@
 // Numbers in decimal digits: definitions and laws. There is no code here.
+#![tactic(auto)]

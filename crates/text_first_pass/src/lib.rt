@@ -4,6 +4,8 @@
 // as far as that reaches, and tells how long it is; `copy_first(first, size, out)` is handed that buffer and the length, any length. `Short`: the lent
 // buffer has no room for all of it. `Again`: it has, and the first one had not, so that a second pass has to write it. Both write nothing. `Done`: it
 // was copied over the front of the lent buffer.
+#![tactic(auto)]
+
 ghost use Rattle.std.specs.Prelude.{◌≡◌, length};
 ghost use Rattle.text_first_pass.specs.Copies.{copy_of, copy_leaves};
 

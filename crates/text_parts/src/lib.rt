@@ -1,6 +1,8 @@
 // Parts of a text by places.
 //
 // `part(s, a, e)` is the bytes from a up to e, any places: of what would stand past the end there is nothing. `places` keeps places in an array.
+#![tactic(auto)]
+
 ghost use Rattle.std.specs.Prelude.{◌≡◌};
 ghost use Rattle.base_sequences.specs.Spans.{span};
 

@@ -1,4 +1,6 @@
 // The texts of quoted strings, written: as much as there is room for from a place on. The length of the whole text is returned.
+#![tactic(auto)]
+
 ghost use Rattle.std.specs.Prelude.{◌≡◌, true, false, ◌+◌, ◌≤◌, length, drop, set};
 ghost use Rattle.base_sequences.specs.Stored.{Put};
 ghost use Rattle.base_readers.specs.Readers.{run};

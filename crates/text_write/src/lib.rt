@@ -3,6 +3,8 @@
 // A writer is handed a buffer and a place in it, any place. It stores as much of the text as there is room for from there on, changes
 // no other byte, and returns the length of the whole text; `put_byte` and `put_part` return the place after it. Run on an empty buffer it
 // only measures.
+#![tactic(auto)]
+
 ghost use Rattle.std.specs.Prelude.{[], ◌∷◌, map, ◌⊎◌, ◌+◌, ◌≤◌};
 ghost use Rattle.base_sequences.specs.Stored.{Put, Clipped};
 ghost use Rattle.lexis_rules.specs.Bytes.{lower};

@@ -8,6 +8,8 @@
 //   1   the body to be written has more than 65,536 bytes: place 0
 //   6   `out` is too short: the bytes needed
 // tried in this order. A refusal writes nothing and returns a zero count; bytes past those written stay unchanged.
+#![tactic(auto)]
+
 ghost use Rattle.std.specs.Prelude.{◌≡◌, length};
 ghost use Rattle.write_rules.specs.Compose.{entries, compose};
 ghost use Rattle.write.specs.Internal.{only_code, next_code, final_code, LinesPut};

@@ -82,7 +82,7 @@ pub fn code_at(s: &[u8], at: usize) -> Code
 
 // What the bytes of a text may have to be of: those that a quoted string can hold, or those that stand bare in a token, in an identifier
 // and in a local part.
-#[derive(Drop)]
+#[derive(Clone, Copy)]
 pub enum Test {
     Text,
     Token,

@@ -1,1 +1,2 @@
 // The laws of our own field from report lines, and the theorems that it reads back; no code.
+#![tactic(auto)]

@@ -3,6 +3,8 @@
 // `put_line(s, at, out, to)` reads the line at a place of `s`, stores what it adds to a body in `out` from `to` on, as far as there is room,
 // and answers the place after the line and the place after what it adds. Places in `out` stop at the largest one, so that no sum is too
 // large. Where no line stands that a body can have, it answers the two places that it was given and stores nothing.
+#![tactic(auto)]
+
 ghost use Rattle.std.specs.Prelude.{◌≡◌, ◌∷◌, ◌++◌};
 ghost use Rattle.base_sequences.specs.Stored.{Clipped};
 ghost use Rattle.base_readers.specs.Places.{from};

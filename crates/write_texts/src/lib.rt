@@ -4,6 +4,8 @@
 //   put_pvalue(k, v, out, to)        the property value whose column is `v`, of the kind of a letter
 //
 // Each stores in `out` from `to` on, as far as there is room, and answers the place after what it adds, at most the largest place.
+#![tactic(auto)]
+
 ghost use Rattle.std.specs.Prelude.{◌≡◌, [], ◌∷◌, drop};
 ghost use Rattle.base_sequences.specs.Stored.{Clipped};
 ghost use Rattle.base_readers.specs.Texts.{bytes, one_of};
