@@ -1,0 +1,7 @@
+-- `command_buffers::lines` meets its contract: so many zeros.
+use mathlib.Core.Path.{refl}
+use Rattle.command_buffers.proofs.Zeros.{count, zeros}
+use Rattle.command_buffers.proofs.lines.Goals as goal
+
+pub returns : goal.returns
+returns c = zeros (count (ty_r lts.r)) 262145 refl
