@@ -4,6 +4,7 @@
 //   read_whole(file, buf)    reads until the buffer is full or the input ends, or tells that a read failed
 //   write_whole(file, text)  writes a text, or tells that a write failed
 //   after_call(got, errno, buf)   tells what came of one call
+//   argument(env, number, word)   an argument of the program, and argument_count(env) how many there are
 //
 // What a call does to a file of the system is in no contract of the kit, so no contract here says which bytes were read or written, and of which file: a program that
 // reads or writes elsewhere, or makes no call, meets those of `open`, `read_whole` and `write_whole`. What is made of a call's answer is an equation (`after_call`). The rest
@@ -15,11 +16,12 @@
 #![tactic(auto)]
 
 ghost use Rattle.std.specs.Prelude.{◌≡◌, length};
-ghost use Rattle.command_files.specs.Transfers.{turn_of, Taken, Gone, Found, IsWithin};
+ghost use Rattle.command_files.specs.Transfers.{turn_of, IsPrefixLen, IsWithin, Taken, Gone, Found};
 
+use std::env::FillError;
 use std::fs::File;
 use std::io::{ErrorKind, Read, Write};
-use std::rt::Files;
+use std::rt::{Env, Files};
 use std::{fs, io, str};
 
 // The number of the error of a call that a signal interrupted, as the system has it.
@@ -168,4 +170,26 @@ pub fn open(files: &impl Files<File = File>, path: &[u8]) -> Opened
         Ok(file) => Opened::File(file),
         Err(_) => Opened::Closed,
     }
+}
+
+// Puts an argument at the front of the buffer, and returns how many bytes it has: none where it is missing or longer than the buffer.
+pub fn argument(env: &impl Env, number: usize, word: &mut [u8]) -> usize
+    ensures { IsPrefixLen result word.new }
+{
+    match env.arg(number, word) {
+        Ok(n) => n,
+        Err(_) => 0,
+    }
+}
+
+// How many arguments there are, with the name of the program.
+pub fn argument_count(env: &impl Env) -> usize {
+    for number in 0..usize::MAX {
+        match env.arg(number, &mut []) {
+            Err(FillError::NotPresent) => return number,
+            Err(FillError::TooLong) => {}
+            Ok(_) => {}
+        }
+    }
+    usize::MAX
 }
