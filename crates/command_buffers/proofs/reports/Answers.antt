@@ -1,7 +1,10 @@
--- `command_buffers::reports` meets its contract: so many zeros.
-use mathlib.Core.Path.{refl}
-use Rattle.command_buffers.proofs.Zeros.{count, zeros}
+-- So many of one byte: their count by the law on it, without counting them.
+use Rattle.std.proofs.Common.{ℕ, refl, sym}
+use Rattle.std.proofs.lemmas.List.{length-replicate}
 use Rattle.command_buffers.proofs.reports.Goals as goal
 
-pub returns : goal.returns
-returns c = zeros (count (ty_r lts.r)) 229377 refl
+pub returns-clause-value : goal.returns-clause-value
+returns-clause-value c = refl
+
+pub returns-clause-value_2 : goal.returns-clause-value_2
+returns-clause-value_2 c = sym (length-replicate {0} {A = ℕ} 229377 0)
