@@ -27,7 +27,7 @@ use Rattle.arc.specs.declared.Counts.{Counts}
 use Rattle.arc_fields.specs.declared.Instance.{Instance}
 use Rattle.arc_rules.specs.declared.Kind.{Kind}
 use Rattle.arc_rules.specs.declared.Kind.TheVariants.{Results, Signature, Seal, Other}
-use Rattle.arc_rules.specs.Sets.{kind_named, last_instance, instance, Said, says}
+use Rattle.arc_rules.specs.Sets.{kind_named, last_instance, Said, says}
 use Rattle.arc_rules.specs.Chain.{Sets, no_sets, column, first, sealed, placed, recorded, noted, gathered}
 use Rattle.arc_fields.specs.Answers.{no_instance}
 use Rattle.arc_laws.proofs.Counting.{InRange, says_range}

@@ -1,6 +1,6 @@
 -- Chains at worked examples, computed: the places of fifty instances, each outcome with its order, the verdicts, and the answers in order.
 -- The tables are small, so that an error shows the two sides.
-use Prim.Native.Nat.{ℕ, zero, suc}
+use Prim.Native.Nat.{ℕ, suc}
 use mathlib.Core.Path.{◌≡◌, refl}
 use mathlib.Core.Bool.{true, false}
 use mathlib.Core.List.{List, [], ◌∷◌, ◌++◌, map}

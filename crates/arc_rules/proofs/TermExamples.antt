@@ -2,14 +2,13 @@
 use Prim.Native.Nat.{ℕ}
 use native.Mathlib.Omega.{arith}
 use mathlib.Core.Path.{◌≡◌, refl, sym, ap, ◌∙◌}
-use mathlib.Core.Bool.{false}
 use mathlib.Core.List.{List, [], ◌∷◌, ◌++◌}
 use lib.Dec.{lit≤}
 use lib.ListN.{length}
 use Rattle.base_sequences.proofs.Booleans.{no_true}
 use Rattle.base_readers.specs.Texts.{bytes}
 use Rattle.block_rules.specs.Fields.{fields}
-use Rattle.arc_rules.specs.Chain.{Outcome, none, failed, built, outcome, valid_for}
+use Rattle.arc_rules.specs.Chain.{Outcome, none, failed, built, valid_for}
 use Rattle.arc_rules.specs.Terms.{Known, BadVerdicts}
 use Rattle.arc_rules.proofs.Unfolding.{opened}
 

@@ -11,7 +11,6 @@ use mir.Syntax.{w64}
 use mir.Val as machine
 use Rattle.base_readers.specs.Readers.{many}
 use Rattle.base_readers.specs.Places.{Reaches}
-use Rattle.base_readers.specs.Locality.{Fits}
 use Rattle.base_readers.proofs.Readers.{there-at}
 use Rattle.base_readers.proofs.Loops.{many-on, many-off, turn-less}
 use Rattle.lexis_rules.specs.declared.Class.TheVariants.{Blank}

@@ -3,7 +3,7 @@ use Prim.Native.Nat.{ℕ}
 use mathlib.Core.Path.{◌≡◌, refl}
 use mathlib.Core.List.{List, [], ◌∷◌, map}
 use Rattle.base_readers.specs.Texts.{bytes}
-use Rattle.base_readers.specs.Parsers.{Got, nothing, got}
+use Rattle.base_readers.specs.Parsers.{nothing, got}
 use Rattle.ownlist_rules.specs.declared.Own.TheVariants.{Ours, Others, Unreadable}
 use Rattle.text_decimals_rules.specs.Decimals.{decimal}
 use Rattle.blockreport_rules.specs.declared.Detail.{Detail}

@@ -2,13 +2,13 @@
 -- test that is computed holds at all of them.
 use Prim.Native.Nat.{ℕ, zero, suc, ◌+◌, ◌*◌, ◌/◌, ◌%◌, ◌≤◌, ◌<◌}
 use native.Mathlib.Omega.{arith}
-use mathlib.Core.Path.{◌≡◌, refl, sym, ap, ◌∙◌}
-use mathlib.Core.Bool.{Bool, true, false, cond, not, ◌&&◌, ◌||◌}
+use mathlib.Core.Path.{◌≡◌, refl}
+use mathlib.Core.Bool.{Bool, true, false, not, ◌&&◌, ◌||◌}
 use mathlib.Core.List.{List, [], ◌∷◌, ◌++◌}
-use lib.Dec.{T, eqb, leb, ltb}
+use lib.Dec.{T, eqb, leb}
 use lib.ListN.{length, get_or, drop}
 use borrow.Author.Tests.{eqb-true, leb-true, leb-false, lt-leb, ne_eqb}
-use Rattle.base_sequences.proofs.Booleans.{no_true, both, and_left, and_right, and_none, or_left, or_right, neither_left, neither_right}
+use Rattle.base_sequences.proofs.Booleans.{no_true, both, and_left, and_right, and_none}
 use Rattle.base_sequences.proofs.Tables.{tested, tested_at}
 use Rattle.base_readers.specs.Texts.{within, one_of}
 use Rattle.report_rules.specs.Report.{hex_digit}

@@ -1,9 +1,9 @@
 -- What is shown of a text is read back, whatever stands behind it, so no two texts look the same and none can end its own quotes; and the report's escaping is
 -- undone. The two together: the text of the field itself is read back from what is shown.
-use Prim.Native.Nat.{ℕ, suc, ◌+◌, ◌*◌, ◌/◌, ◌%◌, ◌<◌}
+use Prim.Native.Nat.{ℕ, ◌/◌, ◌%◌, ◌<◌}
 use native.Mathlib.Omega.{arith}
 use mathlib.Core.Path.{◌≡◌, refl, sym, ap, ◌∙◌}
-use mathlib.Core.Bool.{Bool, true, false, cond, not, ◌&&◌, ◌||◌}
+use mathlib.Core.Bool.{Bool, true, false, cond, not, ◌||◌}
 use mathlib.Core.List.{List, [], ◌∷◌, ◌++◌, append_assoc}
 use lib.Dec.{eqb, ltb}
 use lib.ListN.{take, drop}
@@ -14,7 +14,7 @@ use Rattle.base_readers.specs.Readers.{run}
 use Rattle.lexis_rules.specs.declared.Class.TheVariants.{Visible}
 use Rattle.lexis_rules.specs.Bytes.{in_class}
 use Rattle.report_rules.specs.Report.{hex_digit, plain, escape}
-use Rattle.write_rules.specs.Entries.{each, is_hex, hex_value}
+use Rattle.write_rules.specs.Entries.{each}
 use Rattle.write_rules.specs.Promise.{Bytes}
 use Rattle.explain_rules.specs.Texts.{is_code, code_byte, code_more, decoded_past, decoded, in_word, is_word, quoted_byte, quoted_bytes, shown_text, ReadText, quoted_read, quoted_more, in_front, read_quoted, read_shown}
 use Rattle.explain_rules.specs.declared.Line.{Line}

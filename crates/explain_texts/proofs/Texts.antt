@@ -1,23 +1,22 @@
 -- Texts as the code shows them: the tests of a byte, and the bytes of a column's text stored one after another. The premises are literally what a need is
 -- handed.
 use Prim.Native.Nat.{ℕ, suc, ◌+◌, ◌-◌, ◌/◌, ◌%◌, ◌≤◌, ◌<◌, ◌^◌}
-use native.Mathlib.Numerals.{add-one}
 use native.Mathlib.Omega.{arith}
 use mathlib.Core.Path.{◌≡◌, refl, sym, ap, ◌∙◌}
-use mathlib.Core.Bool.{Bool, true, false, cond, not, ◌&&◌, ◌||◌, beq}
-use mathlib.Core.List.{List, [], ◌∷◌, ◌++◌}
-use lib.Dec.{T, eqb, leb}
-use lib.ListN.{length, get_or, drop, length-drop, drop_of_length-le}
+use mathlib.Core.Bool.{Bool, true, false, cond, not, ◌&&◌, ◌||◌}
+use mathlib.Core.List.{List, [], ◌∷◌}
+use lib.Dec.{eqb, leb}
+use lib.ListN.{length, drop, length-drop, drop_of_length-le}
 use lib.Seq.{drop-drop}
 use borrow.Author.Tests.{eqb-true, eqb-false, eq-eqb, ne_eqb, le-leb, lt-leb}
-use Rattle.base_sequences.proofs.Booleans.{no_true, and_none}
-use Rattle.base_sequences.proofs.Tables.{tested, agree}
+use Rattle.base_sequences.proofs.Booleans.{no_true}
+use Rattle.base_sequences.proofs.Tables.{agree}
 use Rattle.base_sequences.specs.Stored.{Clipped}
 use Rattle.base_sequences.proofs.Clips.{clipped-long, clipped-then, Going, going_start, going_step, going_done}
 use Rattle.base_readers.specs.Texts.{within, one_of}
 use Rattle.report_rules.specs.Report.{hex_digit}
 use Rattle.write_rules.specs.Entries.{each}
-use Rattle.explain_rules.specs.Texts.{is_code, code_byte, code_more, decoded_past, decoded, in_word, is_word, quoted_byte, quoted_bytes, shown_text}
+use Rattle.explain_rules.specs.Texts.{is_code, code_byte, code_more, decoded_past, decoded, in_word, is_word, quoted_byte, quoted_bytes}
 use Rattle.explain_rules.specs.Explained.{shown}
 use Rattle.explain_rules.proofs.Texts.{more-code, more-itself, code-long, decoded-step, quoted-mark, quoted-itself, quoted-hex, words-alike, shown-word, shown-quoted}
 

@@ -6,7 +6,7 @@ use mathlib.Core.List.{List}
 use mathlib.Core.Option.{some}
 use lib.ListN.{take, drop}
 use lib.Seq.{drop-drop}
-use Rattle.base_readers.specs.Parsers.{nothing, got, ◌>>=◌, ◌>>◌, text, optional}
+use Rattle.base_readers.specs.Parsers.{nothing, got, text, optional}
 use Rattle.base_readers.specs.Places.{from}
 use Rattle.base_readers.proofs.Places.{goes_on, stops, gives, text_at, text-none, pass-at, pass-none, one_more, none-there}
 use Rattle.lexis_rules.specs.declared.Digits.{Digits}

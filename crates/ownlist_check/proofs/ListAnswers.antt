@@ -1,7 +1,6 @@
 -- What `check_list` answers is the list's number and place of document 01: 0, or 5 at the start of the first bad entry.
 use Prim.Native.Nat.{ℕ, zero, suc}
-use native.Mathlib.Omega.{arith}
-use mathlib.Core.Path.{◌≡◌, refl, sym, ap, ◌∙◌}
+use mathlib.Core.Path.{◌≡◌, refl, sym}
 use mathlib.Core.List.{List}
 use Rattle.ownlist_rules.specs.OwnList.{own_list}
 use Rattle.ownlist_laws.proofs.Entries.{list-five}

@@ -1,5 +1,4 @@
 -- 02, ticket [2]: RFC 3629, section 4, at every byte behind the first, computed.
-use Prim.Native.Nat.{ℕ}
 use mathlib.Core.Path.{◌≡◌, refl}
 use mathlib.Core.List.{[], ◌∷◌}
 use lib.Dec.{leb, eqb}

@@ -1,14 +1,14 @@
 -- What the writer of spellings leaves; an entry, and a list that is spelled entry by entry.
 use Prim.Native.Nat.{ℕ, ◌+◌, ◌-◌, ◌*◌, ◌≤◌, ◌<◌}
 use native.Mathlib.Omega.{arith}
-use mathlib.Core.Path.{◌≡◌, refl, sym, ◌∙◌}
+use mathlib.Core.Path.{◌≡◌, refl, ◌∙◌}
 use mathlib.Core.Bool.{Bool, true, false}
 use mathlib.Core.List.{List, [], ◌∷◌, ◌++◌, append_assoc}
 use lib.Dec.{leb}
 use lib.ListN.{length, drop, take, length-append}
 use borrow.Author.Tests.{leb-true, leb-false}
 use Rattle.base_sequences.specs.Stored.{Put, Wrote}
-use Rattle.base_sequences.proofs.Splices.{Left, left-start, left_step, left-done, put_front, put-wrote, wrote_then, wrote_count}
+use Rattle.base_sequences.proofs.Splices.{Left, left-start, left_step, left-done, put-wrote, wrote_then, wrote_count}
 use Rattle.punycode_rules.specs.Labels.{spelling, spelling_limit}
 use Rattle.punycode.specs.Answers.{spell_answer, spell_stored}
 use Rattle.punycode.proofs.SpellingInFront.{spell-long, spell-length, spell-front, spell-room}

@@ -1,20 +1,20 @@
 -- The escape of a run of bytes that are written as they stand; then the two
 -- loops that write escaped texts, what each keeps, one turn, and the end. The premises are literally what a need is handed, and each law
 -- goes by induction over the text or by the laws of `Going`.
-use Prim.Native.Nat.{ℕ, zero, suc, ◌+◌, ◌-◌, ◌/◌, ◌%◌, ◌≤◌, ◌<◌, ◌^◌}
+use Prim.Native.Nat.{ℕ, zero, suc, ◌+◌, ◌-◌, ◌≤◌, ◌<◌, ◌^◌}
 use native.Mathlib.Numerals.{add-one}
 use native.Mathlib.Omega.{arith}
 use mathlib.Core.Path.{◌≡◌, refl, sym, ap, ◌∙◌}
 use mathlib.Core.Bool.{Bool, true, false, not, ◌&&◌, ◌||◌}
-use mathlib.Core.List.{List, [], ◌∷◌, ◌++◌, append_assoc}
+use mathlib.Core.List.{List, [], ◌∷◌, ◌++◌}
 use lib.Dec.{eqb, leb}
 use lib.ListN.{length, get_or, take, drop, length-drop, drop_of_length-le, take-append-drop}
 use lib.Seq.{drop-cons, drop-drop, get_or-drop, take-length}
-use borrow.Author.Tests.{le-leb, lt-leb, leb-true, not-true}
+use borrow.Author.Tests.{leb-true, not-true}
 use Rattle.base_sequences.specs.Stored.{Clipped}
 use Rattle.base_sequences.proofs.Booleans.{and_left, and_right}
 use Rattle.base_sequences.proofs.Tables.{agree, tested_at}
-use Rattle.base_sequences.proofs.Clips.{Going, going_start, going_step, going_done, clipped-long, clipped-then}
+use Rattle.base_sequences.proofs.Clips.{Going, going_start, going_step, going_done}
 use Rattle.base_readers.specs.Texts.{within, one_of}
 use Rattle.base_readers.specs.Readers.{run, lasts}
 use Rattle.base_readers.specs.Places.{Reaches}
@@ -25,7 +25,7 @@ use Rattle.lexis_rules.specs.Pieces.{item}
 use Rattle.lexis_rules.specs.Words.{quoted_text}
 use Rattle.lexis_laws.proofs.Pieces.{item-fits}
 use Rattle.result_laws.proofs.Values.{implied}
-use Rattle.report_rules.specs.Report.{hex_digit, plain, escape}
+use Rattle.report_rules.specs.Report.{plain, escape}
 use Rattle.report_escape.proofs.Escape.{escape-plain, escape-none, escape-cons, escape-append}
 use Rattle.report_escape.specs.Internal.{verbatim}
 

@@ -2,12 +2,11 @@
 -- computation to its columns, tabs and LF. The premises are literally what a need is handed.
 use Prim.Native.Nat.{ℕ, ◌+◌, ◌-◌, ◌≤◌, ◌<◌, ◌^◌}
 use native.Mathlib.Omega.{arith}
-use mathlib.Core.Path.{◌≡◌, refl, sym, ◌∙◌}
+use mathlib.Core.Path.{◌≡◌, refl}
 use mathlib.Core.Bool.{Bool, true, false}
 use mathlib.Core.List.{List, [], ◌∷◌, ◌++◌, map, append_assoc}
 use mathlib.Core.Option.{some}
-use lib.ListN.{length, take, drop, drop_of_length-le, length-drop}
-use lib.Seq.{take_all}
+use lib.ListN.{length, drop}
 use Rattle.base_sequences.specs.Stored.{cap, Clipped, Put}
 use Rattle.base_sequences.proofs.Clips.{clipped-cap, put-clipped}
 use Rattle.base_readers.specs.Texts.{bytes}

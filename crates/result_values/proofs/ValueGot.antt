@@ -22,7 +22,7 @@ use Rattle.lexis_laws.proofs.Values.{quoted-text}
 use Rattle.result_values.specs.declared.Value as place
 use Rattle.result_values.specs.declared.Value.TheVariants as at
 use Rattle.result_values.specs.declared.Found.TheVariants.{Read, Refused}
-use Rattle.result_rules.specs.Results.{Kind, Token, Quoted, Mailbox, AtDomain, Value, next, read_quoted, in_local_part, single_dots, is_local_part, domain, addressed, address, quoted_mailbox, quoted_value, token_value, at_behind, property_value}
+use Rattle.result_rules.specs.Results.{Kind, Token, Quoted, Mailbox, Value, next, read_quoted, in_local_part, single_dots, is_local_part, domain, addressed, address, quoted_mailbox, quoted_value, token_value, at_behind, property_value}
 use Rattle.result_values.specs.Values.{up_to, mailbox_at, at_domain_at, address_at, quoted_to, quoted_at, token_at, value_from, value_at, value_of, value_got}
 use Rattle.base_sequences.specs.Spans.{span}
 

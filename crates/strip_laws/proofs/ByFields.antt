@@ -1,9 +1,8 @@
 -- The test by which fields are removed is demand 2's sentence, and so the kept fields are those of the sentence: by cases of the test, field by
 -- field.
 use Prim.Native.Nat.{ℕ}
-use native.Mathlib.Omega.{arith}
 use mathlib.Core.Path.{◌≡◌, refl, sym, ap, ◌∙◌}
-use mathlib.Core.Bool.{Bool, true, false, not, ◌&&◌, ◌||◌}
+use mathlib.Core.Bool.{Bool, true, false, not, ◌||◌}
 use mathlib.Core.List.{List, [], ◌∷◌, ◌++◌, Memᴰ}
 use Rattle.base_sequences.proofs.Booleans.{no_true, and_left, and_right}
 use lib.ListN.{length, drop}
@@ -14,7 +13,7 @@ use Rattle.block_rules.specs.Fields.{Field, body_of, named, select, fields, byte
 use Rattle.block_laws.proofs.Fields.{select_yes, select_no, fields-fine}
 use Rattle.ownlist_rules.specs.OwnList.{own_list}
 use Rattle.identifier_rules.specs.Identifier.{identifier, same_identifier}
-use Rattle.ownlist_rules.specs.listed_test.{among}
+use Rattle.ownlist_rules.specs.Listed.{among}
 use Rattle.strip_rules.specs.Strip.{ours_or_unreadable, is_removed, kept_of, strip}
 use Rattle.strip_rules.specs.Answers.{leaves}
 use Rattle.strip_laws.proofs.Laws.{listed_test, strip-sound}
@@ -36,6 +35,7 @@ among-entry (e ∷ own) i h = go (λ k. among-entry own i k) (same_identifier e 
 
 entry-among : (own : List (List ℕ)) (i e : List ℕ) → Memᴰ e own → same_identifier e i ≡ true → among own i ≡ true
 unfolding among
+entry-among [] i e m h = elim m [ ]
 entry-among (x ∷ own) i e (Memᴰ.head q) h = let s : same_identifier x i ≡ true = rw q at h in rw s
 entry-among (x ∷ own) i e (Memᴰ.tail m) h = go (entry-among own i e m h) (same_identifier x i) refl
   where

@@ -7,7 +7,7 @@ use lib.ListN.{length}
 use Rattle.lexis_rules.specs.Limits.{byte_limit}
 use Rattle.block_rules.specs.Fields.{fields, bytes_of}
 use Rattle.ownlist_rules.specs.OwnList.{own_list}
-use Rattle.ownlist_rules.specs.listed_test.{among}
+use Rattle.ownlist_rules.specs.Listed.{among}
 use Rattle.ownlist_laws.proofs.AnswersInOrder.{course, InOrderToSix, in-order-to-six}
 use Rattle.strip_rules.specs.Strip.{removed_of, kept_of, Answer, refuse, done, fitted, strip_fields, strip}
 use Rattle.strip_rules.specs.Terms.{kept_fields, removed_fields}

@@ -9,7 +9,7 @@ use Rattle.base_readers.specs.Walks.{Walked}
 use Rattle.block_rules.specs.Fields.{Field, fields, bytes_of}
 use Rattle.ownlist_rules.specs.OwnList.{own_list}
 use Rattle.block_laws.proofs.Fields.{fields-fine, select-fields, select-sum, select-again, select-none}
-use Rattle.ownlist_rules.specs.listed_test.{among}
+use Rattle.ownlist_rules.specs.Listed.{among}
 use Rattle.ownlist_laws.proofs.CallCases.{by-list-same}
 use Rattle.ownlist_laws.proofs.RepeatedEntries.{among-again}
 use Rattle.strip_rules.specs.Strip.{is_removed, removed_of, kept_of, Answer, refuse, strip_fields, strip}

@@ -1,6 +1,5 @@
 -- What the code's answers say and what they leave in the lent buffer.
 use Rattle.std.specs.Prelude.{ℕ, List, ◌++◌, length, drop}
-use Rattle.block_rules.specs.Fields.{fields}
 use Rattle.strip_rules.specs.declared.Stripped.{Stripped}
 use Rattle.strip_rules.specs.Strip.{Answer}
 

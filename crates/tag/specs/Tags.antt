@@ -1,6 +1,6 @@
 -- What the code's answers say: a tag by its places.
 use Prim.Native.Char.{code}
-use Rattle.std.specs.Prelude.{ℕ, ◌+◌, ◌-◌, ◌≤◌, ◌<◌, ◌≡◌, true, false, List, eqb, leb, length, get_or, take, drop}
+use Rattle.std.specs.Prelude.{ℕ, ◌+◌, ◌≤◌, ◌<◌, ◌≡◌, true, false, List, eqb, leb, length, get_or, drop}
 use Rattle.base_sequences.specs.Spans.{span}
 use Rattle.base_readers.specs.Texts.{starts}
 use Rattle.base_readers.specs.Readers.{run}

@@ -12,7 +12,7 @@ use mir.Syntax.{w64}
 use mir.Val as machine
 use borrow.Author.Tests.{ne_eqb}
 use Rattle.base_sequences.proofs.Booleans.{or-none}
-use Rattle.base_readers.specs.Texts.{bytes, one_of, same}
+use Rattle.base_readers.specs.Texts.{bytes, one_of}
 use Rattle.base_readers.specs.Readers.{run}
 use Rattle.base_readers.specs.Places.{Reaches}
 use Rattle.base_readers.proofs.Readers.{run_fits}
@@ -21,7 +21,6 @@ use Rattle.lexis_rules.specs.Bytes.{alike}
 use Rattle.tag_rules.specs.Tags.{white, solid, trimmed}
 use Rattle.tag_rules.specs.Needed.{chain_value}
 use Rattle.base_sequences.specs.Spans.{span}
-use Rattle.tag.proofs.TagParts.{inside}
 
 -- ==== space around a value
 

@@ -6,9 +6,9 @@ use native.Mathlib.Omega.{arith}
 use mathlib.Core.Path.{◌≡◌, refl, sym, ◌∙◌}
 use mathlib.Core.Bool.{Bool, true, false, not, ◌&&◌}
 use mathlib.Core.List.{List, [], ◌∷◌, map}
-use mathlib.Core.Option.{none, some}
+use mathlib.Core.Option.{none}
 use lib.Dec.{eqb, leb, ltb}
-use lib.ListN.{length, take, drop, replicate, length-drop, length-replicate}
+use lib.ListN.{length, take, drop, length-drop}
 use lib.Seq.{length-take-le}
 use borrow.Author.Tests.{le-leb, lt-leb, leb-true, leb-false, le-ltb, ltb-false}
 use Rattle.base_sequences.proofs.Booleans.{both}
@@ -30,7 +30,7 @@ use Rattle.tag_rules.specs.Needed.{chain_value, sound, signature_tags, is_signat
 use Rattle.tag_content.specs.Lists.{tags_at, list_test, list_said, listed_at}
 use Rattle.tag_names.specs.Names.{name_at, Named, same_at, holds, held_at, all_at, seal_at}
 use Rattle.tag_names.proofs.Needed.{same_whole, held-named}
-use Rattle.tag_content.specs.Tests.{kept, cv_after, ended_at, SoundAt, CollectedIf, attempt_if, told_at, AttemptIf}
+use Rattle.tag_content.specs.Tests.{cv_after, ended_at, SoundAt, CollectedIf, attempt_if, told_at, AttemptIf}
 use Rattle.tag_content.proofs.TagsRead.{tag-within}
 
 -- ==== the end of a list

@@ -1,23 +1,21 @@
 -- The name at the front of bytes: the byte at a place, and the loop that compares. From each place of the loop on the name stands to the other as
 -- it does from the start. And for a name of a name's bytes this is the order of the two names.
 use Prim.Native.Nat.{ℕ, zero, suc, ◌+◌, ◌-◌, ◌≤◌, ◌<◌}
-use native.Mathlib.Nat.{le_of_suc-le-suc}
 use native.Mathlib.Numerals.{add-one}
 use native.Mathlib.Omega.{arith}
 use mathlib.Core.Path.{◌≡◌, refl, sym, ap, ◌∙◌}
 use mathlib.Core.Bool.{Bool, true, false}
-use mathlib.Core.List.{List, [], ◌∷◌, map}
-use borrow.Author.Tests.{ltb-true, ltb-false, lt-ltb, le-ltb}
+use mathlib.Core.List.{List, [], ◌∷◌}
+use borrow.Author.Tests.{ltb-false, lt-ltb, le-ltb}
 use lib.Dec.{ltb}
 use lib.ListN.{length, get_or, take, drop, drop_of_length-le}
 use lib.Seq.{drop-cons, length-take-le, take-length}
-use Rattle.base_sequences.proofs.Booleans.{no_true, both}
+use Rattle.base_sequences.proofs.Booleans.{both}
 use Rattle.base_sequences.proofs.Lists.{drop-take}
 use Rattle.base_readers.specs.Texts.{starts}
 use Rattle.base_readers.specs.Readers.{run}
 use Rattle.base_readers.proofs.Readers.{run_take, run_fits}
 use Rattle.tag_rules.specs.Tags.{in_tag_name}
-use Rattle.tag_names.specs.declared.Order.{Order}
 use Rattle.tag_names.specs.declared.Order.TheVariants.{Before, Same, After}
 use Rattle.tag_names.specs.Names.{name_at, Named, compared, compared_at}
 

@@ -1,16 +1,13 @@
 -- Names that stand at places: the loop that looks for one, the tests for those that a signature and a seal need, and that they are tests of the
 -- names at the places.
-use Prim.Native.Nat.{ℕ, zero, suc, ◌+◌, ◌≤◌, ◌<◌}
+use Prim.Native.Nat.{ℕ, suc, ◌+◌, ◌≤◌, ◌<◌}
 use native.Mathlib.Numerals.{add-one}
-use native.Mathlib.Omega.{arith}
 use mathlib.Core.Path.{◌≡◌, refl, sym, ap, ◌∙◌}
-use mathlib.Core.Bool.{Bool, true, false, not, ◌&&◌, ◌||◌}
+use mathlib.Core.Bool.{Bool, true, false, not, ◌||◌}
 use mathlib.Core.List.{List, [], ◌∷◌, map}
 use borrow.Author.Tests.{eq-eqb, ne_eqb, not-true, not-false}
-use lib.Dec.{eqb}
 use lib.ListN.{length, get_or, drop, drop_of_length-le}
 use lib.Seq.{drop-cons}
-use Rattle.base_sequences.proofs.Booleans.{or_left, or_right}
 use Rattle.base_readers.specs.Texts.{bytes, same}
 use Rattle.tag_rules.specs.Needed.{seal_tags}
 use Rattle.tag_names.specs.Names.{name_at, Named, is_same, same_at, holds, held_at, all_at, seal_at}

@@ -7,7 +7,7 @@ use mathlib.Core.List.{List}
 use borrow.Author.Tests.{lt-ltb, le-ltb, ltb-true, ltb-false}
 use lib.Dec.{ltb}
 use lib.ListN.{length, take}
-use lib.Seq.{sets, length-take-le}
+use lib.Seq.{sets}
 use Rattle.base_sequences.specs.Stored.{Put}
 use Rattle.text_first_pass.specs.declared.Copy.{Copy}
 use Rattle.text_first_pass.specs.declared.Copy.TheVariants.{Short, Again, Done}

@@ -17,7 +17,7 @@ use Rattle.base_readers.specs.Places.{values}
 use Rattle.base_readers.specs.Locality.{Any}
 use Rattle.base_readers.proofs.Texts.{same_refl, same-eq}
 use Rattle.lexis_rules.specs.Bytes.{lower}
-use Rattle.result_rules.specs.Results.{Token, Mailbox, AtDomain, next, domain}
+use Rattle.result_rules.specs.Results.{Mailbox, AtDomain, next, domain}
 use Rattle.result_rules.specs.Table.{listed, ptypes}
 use Rattle.report_rules.specs.Report.{plain, escape}
 use Rattle.write_rules.specs.Entries.{single, escaped, each, whole, is_text, is_keyword, local_of, domain_of, stands, kind_of}

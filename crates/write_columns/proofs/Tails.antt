@@ -1,5 +1,5 @@
 -- Texts that close a line: one law for each way out of the code, and the two cases that its answer tells.
-use Prim.Native.Nat.{ℕ, zero, suc, ◌+◌, ◌-◌, ◌^◌, ◌<◌}
+use Prim.Native.Nat.{ℕ, zero, suc, ◌+◌, ◌^◌, ◌<◌}
 use native.Mathlib.Omega.{arith}
 use mathlib.Core.Path.{◌≡◌, refl, sym, ap, ◌∙◌}
 use mathlib.Core.Bool.{Bool, true, false}
@@ -19,7 +19,7 @@ use Rattle.lexis_rules.specs.Pieces.{token}
 use Rattle.write_rules.specs.Entries.{each, whole, quotable, is_text, coded}
 use Rattle.write_columns.specs.declared.coded.Test.{Test}
 use Rattle.write_columns.specs.declared.coded.Test.TheVariants.{Text, Token}
-use Rattle.write_columns.specs.declared.coded.tail_reader as tail
+use Rattle.write_columns.specs.declared.coded.Tail as tail
 use Rattle.write_columns.specs.declared.coded.Text as read
 use Rattle.write_columns.specs.Internal.{coded_byte, code_size, text_of, in_test, text_at, tail_reader, tail_at, TailEnd, ends, endless, end_or}
 use Rattle.write_columns.proofs.Codes.{size-some, size_none}
@@ -91,7 +91,7 @@ module _ {A : Type 0} (g : List ℕ → A) (s : List ℕ) (at e : ℕ) (q : e �
 abbrev itself : List ℕ → List ℕ
 itself x = x
 
-abbrev tail_is : ℕ → Bool → tail.tail_reader
+abbrev tail_is : ℕ → Bool → tail.Tail
 tail_is e b = record { end = e; bare = b }
 
 module _ (t : Test) (s : List ℕ) (at : ℕ) (x : read.Text) (X : x ≡ text_at t s at) where

@@ -13,7 +13,7 @@ use Rattle.report_rules.specs.Report.{plain, escape}
 use Rattle.write_rules.specs.Promise.{Bytes}
 use Rattle.write_rules.specs.Entries.{Entry, shown, kind_of, kind_letter, stands, allowed, whole, single, escaped, quotable, is_text, coded}
 use Rattle.write_columns.specs.declared.coded.Code.{Code}
-use Rattle.write_columns.specs.declared.coded.tail_reader as tail
+use Rattle.write_columns.specs.declared.coded.Tail as tail
 use Rattle.write_columns.specs.declared.coded.Test.{Test}
 use Rattle.write_columns.specs.declared.coded.Test.TheVariants as test
 use Rattle.write_columns.specs.declared.coded.Text as read
@@ -62,7 +62,7 @@ tail_reader f = do
   when (is_text t)
   give (f t)
 
-abbrev pub tail_at : Test → List ℕ → ℕ → tail.tail_reader
+abbrev pub tail_at : Test → List ℕ → ℕ → tail.Tail
 tail_at t s at = record { end = end_or at (from (tail_reader (λ (x : List ℕ). x)) s at); bare = whole (run (in_test t)) (text_of (drop at s)) }
 
 -- where it ends, whatever is made of the text, or that it isn't there

@@ -10,10 +10,8 @@ use lib.Dec.{eqb, leb}
 use lib.ListN.{length, take, length-append}
 use borrow.Author.Tests.{leb-true, leb-false, eq-eqb}
 use Rattle.base_sequences.proofs.Booleans.{both}
-use Rattle.base_readers.specs.Texts.{bytes}
 use Rattle.base_readers.specs.Walks.{Walked}
 use Rattle.lexis_rules.specs.Limits.{byte_limit}
-use Rattle.report_rules.specs.Report.{lines}
 use Rattle.write_rules.specs.Entries.{Entry, line_of}
 use Rattle.write_rules.specs.Bodies.{body_of}
 use Rattle.write_rules.specs.Compose.{State, front, final, entries, Answer, refusal, sized, answer, compose}

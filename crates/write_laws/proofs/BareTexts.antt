@@ -22,7 +22,7 @@ use Rattle.lexis_rules.specs.Words.{quoted_text, value_text, skip, gap, read_val
 use Rattle.lexis_laws.proofs.Locality.{token-local}
 use Rattle.lexis_laws.proofs.Values.{quoted-text}
 use Rattle.identifier_rules.specs.Identifier.{identifier_token, identifier_value, identifier}
-use Rattle.result_rules.specs.Results.{Token, Quoted, separator, reason}
+use Rattle.result_rules.specs.Results.{separator, reason}
 use Rattle.result_laws.proofs.Following.{Delimited, separator-within}
 use Rattle.write_rules.specs.Entries.{identified, reasoned, whole}
 use Rattle.write_rules.specs.Bodies.{guarded, quote, bare_or, piece}

@@ -11,7 +11,6 @@ use lib.Seq.{take-take, take-append_seam}
 use Rattle.base_sequences.proofs.Booleans.{both}
 use Rattle.base_readers.specs.Parsers.{got}
 use Rattle.base_readers.proofs.Sequencing.{no-got}
-use Rattle.report_rules.specs.Report.{lines}
 use Rattle.write_rules.specs.Entries.{Entry, identified, unstated, line_of, each, is_text, entry}
 use Rattle.write_rules.specs.Compose.{State, front, named, closed, stated, detailed, goes, final, step}
 use Rattle.write_rules.specs.Promise.{lines_with_feeds, Begins}

@@ -9,7 +9,6 @@ use mathlib.Core.List.{List, [], ◌∷◌, ◌++◌, append-nil}
 use lib.Dec.{leb}
 use lib.ListN.{length}
 use borrow.Author.Tests.{le-leb}
-use Rattle.base_readers.specs.Texts.{bytes}
 use Rattle.result_rules.specs.Results.{Result}
 use Rattle.result_rules.specs.Table.{understood}
 use Rattle.report_rules.specs.Body.{Reading, unreadable, malformed, newer, no_result, results, reading}
@@ -18,7 +17,7 @@ use Rattle.report_rules.specs.Report.{id_line, none_line, lines, ignored_of, fit
 use Rattle.report_rules.specs.Newer.{well_formed}
 use Rattle.write_rules.specs.Entries.{Entry, identified, unstated, line_of, is_text}
 use Rattle.write_rules.specs.Bodies.{piece}
-use Rattle.write_rules.specs.Compose.{State, front, final, Answer, refusal, answer}
+use Rattle.write_rules.specs.Compose.{State, front, final}
 use Rattle.write_rules.specs.Promise.{Reports, HasBody, says_lines}
 use Rattle.write_laws.proofs.Readback.{Each, joined}
 use Rattle.write_laws.proofs.Results.{Stated, result_pieces}

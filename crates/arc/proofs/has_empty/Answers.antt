@@ -1,7 +1,5 @@
-use Prim.Native.Nat.{◌-◌}
 use native.Mathlib.Omega.{arith}
-use borrow.Author.Rules.{rules}
-use Rattle.arc.proofs.Ranking.{RowsFrom, RowFrom, rows_start, rows-done, row-start, row-found, row_more, row_done}
+use Rattle.arc.proofs.Ranking.{rows_start, rows-done, row-start, row-found, row_more, row_done}
 use Rattle.arc.proofs.has_empty.Goals as goal
 
 pub search-init : goal.search-init

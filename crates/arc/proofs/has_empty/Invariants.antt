@@ -1,8 +1,6 @@
 -- `arc::has_empty` meets its contract: at each place of the nested loops what is left answers as the whole.
 use Prim.Native.Nat.{◌-◌}
-use native.Mathlib.Omega.{arith}
-use borrow.Author.Rules.{rules}
-use Rattle.arc.proofs.Ranking.{RowsFrom, RowFrom, rows_start, rows-done, row-start, row-found, row_more, row_done}
+use Rattle.arc.proofs.Ranking.{RowsFrom, RowFrom}
 use Rattle.arc.proofs.has_empty.Given as goal
 
 abbrev pub invariant-loop-k : goal.invariant-loop-k

@@ -1,7 +1,4 @@
-use Prim.Native.Nat.{◌-◌}
-use native.Mathlib.Omega.{arith}
-use borrow.Author.Rules.{rules}
-use Rattle.arc.proofs.Ranking.{PassFrom, prescribed-none, prescribed-first, prescribed-start, prescribed-more, prescribed-bad, prescribed-done}
+use Rattle.arc.proofs.Ranking.{prescribed-none, prescribed-first, prescribed-start, prescribed-more, prescribed-bad, prescribed-done}
 use Rattle.arc.proofs.is_prescribed.Goals as goal
 
 pub returns-then-n-eq0 : goal.returns-then-n-eq0

@@ -1,6 +1,5 @@
 -- `arc::judge` meets its contract: each way out is an answer of the definition, in its order.
 use Rattle.arc.proofs.Judging.{judge-small, judge-complete-fits, answer-1, answer-2-4, answer-unread, answer-repeated, answer-none, answer-ranked}
-use borrow.Author.Rules.{rules}
 use Rattle.arc.proofs.judge.Goals as goal
 
 pub returns-then-too_long : goal.returns-then-too_long

@@ -1,6 +1,5 @@
 -- `arc::judge_complete` meets its contract: each way out is a case of the definition.
 use Rattle.arc.proofs.Judging.{judge-complete-gap, judge-complete-fail, judge-complete-built, judge-complete-not}
-use borrow.Author.Rules.{rules}
 use Rattle.arc.proofs.judge_complete.Goals as goal
 
 pub returns-then-has_empty : goal.returns-then-has_empty

@@ -1,6 +1,5 @@
 -- `arc::note` meets its contract: a field of another kind is passed over, one that reads is placed, any other is unreadable.
 use Rattle.arc.proofs.Noting.{note-other, read-range, note-read, note-unread}
-use borrow.Author.Rules.{rules}
 use Rattle.arc.proofs.note.Goals as goal
 
 pub returns-then-is_other : goal.returns-then-is_other

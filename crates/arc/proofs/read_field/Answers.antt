@@ -1,5 +1,4 @@
 -- `arc::read_field` meets its contract: an instance, and the list that its kind has.
-use borrow.Author.Rules.{rules}
 use Rattle.arc.proofs.FieldReading.{field-results, field-signature, field-seal, field-other, field-missing}
 use Rattle.arc.proofs.read_field.Goals as goal
 

@@ -1,12 +1,7 @@
-use Prim.Native.Nat.{◌-◌}
 use native.Mathlib.Omega.{arith}
-use mathlib.Core.Path.{◌≡◌, sym, ◌∙◌}
-use borrow.Author.Rules.{rules}
-use lib.ListN.{length, drop}
-use Rattle.block.specs.declared.Next.TheVariants.{Field}
-use Rattle.block.specs.Steps.{next_from}
-use Rattle.block.proofs.Steps.{Cut, step_field}
-use Rattle.arc.proofs.Noting.{Gathering, read-sets-start, read-sets-end, read-sets-refused, read-sets-more, body-fits}
+use mathlib.Core.Path.{sym, ◌∙◌}
+use Rattle.block.proofs.Steps.{step_field}
+use Rattle.arc.proofs.Noting.{read-sets-start, read-sets-end, read-sets-refused, read-sets-more, body-fits}
 use Rattle.arc.proofs.read_sets.Goals as goal
 
 pub loop-start-init : goal.loop-start-init

@@ -1,13 +1,7 @@
 -- `arc::read_sets` meets its contract: at each field the rest of the block is gathered to what the whole is.
 use Prim.Native.Nat.{◌-◌}
-use native.Mathlib.Omega.{arith}
-use mathlib.Core.Path.{◌≡◌, sym, ◌∙◌}
-use borrow.Author.Rules.{rules}
-use lib.ListN.{length, drop}
-use Rattle.block.specs.declared.Next.TheVariants.{Field}
-use Rattle.block.specs.Steps.{next_from}
-use Rattle.block.proofs.Steps.{Cut, step_field}
-use Rattle.arc.proofs.Noting.{Gathering, read-sets-start, read-sets-end, read-sets-refused, read-sets-more, body-fits}
+use lib.ListN.{length}
+use Rattle.arc.proofs.Noting.{Gathering}
 use Rattle.arc.proofs.read_sets.Given as goal
 
 abbrev pub invariant-loop-start : goal.invariant-loop-start

@@ -1,8 +1,4 @@
-use Prim.Native.Nat.{◌-◌}
-use native.Mathlib.Omega.{arith}
-use borrow.Author.Rules.{rules}
-use lib.ListN.{length}
-use Rattle.arc_answers.proofs.Verdicts.{AllFrom, verdict, all_start, valid-long, valid-more, valid-bad, valid-done}
+use Rattle.arc_answers.proofs.Verdicts.{all_start, valid-long, valid-more, valid-bad, valid-done}
 use Rattle.arc_answers.proofs.are_valid.Goals as goal
 
 pub returns-then-v-n : goal.returns-then-v-n

@@ -1,6 +1,5 @@
 -- `arc_answers::is_pass` meets its contract: the last signature is tested before the seals, and both must be good.
 use Rattle.arc_answers.proofs.Verdicts.{pass-none, pass-last, pass-bad}
-use borrow.Author.Rules.{rules}
 use Rattle.arc_answers.proofs.is_pass.Goals as goal
 
 pub returns-then-v-eq0 : goal.returns-then-v-eq0

@@ -1,6 +1,5 @@
 -- `arc_answers::judge_built` meets its contract: each way out is a case of the definition.
 use Rattle.arc_answers.proofs.Built.{judge-built-bad, judge-built-pass, judge-built-fail}
-use borrow.Author.Rules.{rules}
 use Rattle.arc_answers.proofs.judge_built.Goals as goal
 
 pub returns-then-not-are_valid : goal.returns-then-not-are_valid

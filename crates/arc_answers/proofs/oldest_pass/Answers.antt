@@ -1,5 +1,5 @@
 use native.Mathlib.Omega.{arith}
-use Rattle.arc_answers.proofs.Verdicts.{OldestTo, oldest-start, oldest-found, oldest-less, oldest-none}
+use Rattle.arc_answers.proofs.Verdicts.{oldest-start, oldest-found, oldest-less, oldest-none}
 use Rattle.arc_answers.proofs.oldest_pass.Goals as goal
 
 pub loop-i-init : goal.loop-i-init

@@ -1,9 +1,5 @@
-use Prim.Native.Nat.{◌-◌}
 use native.Mathlib.Omega.{arith}
-use borrow.Author.Rules.{rules}
-use lib.ListN.{length}
-use Rattle.arc_rules.specs.Chain.{seal_good}
-use Rattle.arc_answers.proofs.Verdicts.{AllFrom, all_start, seals-more, seals-bad, seals-done}
+use Rattle.arc_answers.proofs.Verdicts.{all_start, seals-more, seals-bad, seals-done}
 use Rattle.arc_answers.proofs.seals_good.Goals as goal
 
 pub loop-i-init : goal.loop-i-init

@@ -1,5 +1,4 @@
 -- `arc_fields::digit` meets its contract: a digit is 48 at least.
-use borrow.Author.Rules.{rules}
 use Rattle.arc_fields.proofs.Instances.{digit_low}
 use Rattle.arc_fields.proofs.digit.Goals as goal
 

@@ -1,5 +1,4 @@
 -- `arc_fields::number_at` meets its contract: each way through the code is a case of the parser.
-use borrow.Author.Rules.{rules}
 use Rattle.arc_fields.proofs.Instances.{digits-inside, digits-all, number-missing, number-none, number-open, number_read}
 use Rattle.arc_fields.proofs.number_at.Goals as goal
 

@@ -1,5 +1,4 @@
 -- `arc_fields::separator_end` meets its contract: space and the byte behind it.
-use borrow.Author.Rules.{rules}
 use Rattle.arc_fields.proofs.Instances.{separator-there, separator-other, separator-past}
 use Rattle.arc_fields.proofs.separator_end.Goals as goal
 

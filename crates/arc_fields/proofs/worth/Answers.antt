@@ -1,6 +1,5 @@
 -- `arc_fields::worth` meets its contract: one or two digits, by the length of the text.
 use native.Mathlib.Omega.{arith}
-use borrow.Author.Rules.{rules}
 use Rattle.arc_fields.proofs.Instances.{digit-alone, digit-first, digit-second, tens-fit, sum_fits, worth-one, worth-two, worth-none}
 use Rattle.arc_fields.proofs.worth.Goals as goal
 

@@ -1,6 +1,5 @@
 -- `block::finish` meets its contract: by those of its calls.
 use Rattle.block.proofs.Lines.{finish-2, finish-field}
-use borrow.Author.Rules.{rules}
 use Rattle.block.proofs.finish.Goals as goal
 
 pub returns-then-blank_at : goal.returns-then-blank_at

@@ -1,7 +1,6 @@
 -- `block::label_end` meets its contract: the name, the blanks after it, and a colon.
 use Rattle.base_readers.proofs.Loops.{there-fits}
 use Rattle.block.proofs.Lines.{label-none, label-no, label-yes}
-use borrow.Author.Rules.{rules}
 use Rattle.block.proofs.label_end.Goals as goal
 
 pub returns-then-n-at : goal.returns-then-n-at

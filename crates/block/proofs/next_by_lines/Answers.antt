@@ -1,7 +1,6 @@
 -- `block::next_by_lines` meets its contract: each test of the code is one case of the definition.
 use Rattle.block.proofs.Lines.{next-end, next-2, next-3, next-4, next_field}
 use native.Mathlib.Omega.{arith}
-use borrow.Author.Rules.{rules}
 use Rattle.block.proofs.next_by_lines.Goals as goal
 
 pub returns-then-s-at : goal.returns-then-s-at

@@ -1,5 +1,4 @@
 -- `block::next_field` meets its contract: a field that was found whole is the one that stands there.
-use borrow.Author.Rules.{rules}
 use Rattle.block.proofs.WholeFields.{whole-3, whole-4, whole-field}
 use Rattle.block.proofs.next_field.Goals as goal
 

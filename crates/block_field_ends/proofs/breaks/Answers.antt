@@ -1,5 +1,4 @@
 -- `block_field_ends::breaks` meets its contract: by that of the test for space and tab.
-use borrow.Author.Rules.{rules}
 use Rattle.block_field_ends.proofs.Steps.{broken-by}
 use Rattle.block_field_ends.proofs.breaks.Goals as goal
 

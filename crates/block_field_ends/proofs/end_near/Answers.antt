@@ -1,8 +1,4 @@
-use Prim.Native.Nat.{◌-◌}
 use native.Mathlib.Omega.{arith}
-use borrow.Author.Rules.{rules}
-use lib.ListN.{length}
-use Rattle.block_field_ends.specs.Internal.{Leads}
 use Rattle.block_field_ends.proofs.Steps.{leads-here, near-high, near-low, near-feed, near-return, near_none, near-fold, near-end, near-both}
 use Rattle.block_field_ends.proofs.end_near.Goals as goal
 

@@ -1,9 +1,4 @@
-use Prim.Native.Nat.{◌+◌, ◌-◌, ◌≤◌}
 use native.Mathlib.Omega.{arith}
-use mathlib.Core.Path.{◌≡◌}
-use mathlib.Core.Bool.{false}
-use borrow.Author.Rules.{rules}
-use Rattle.block_field_ends.specs.Internal.{Onward}
 use Rattle.block_field_ends.proofs.Steps.{onward-none, onward-more, onward-all}
 use Rattle.block_field_ends.proofs.has_break.Goals as goal
 

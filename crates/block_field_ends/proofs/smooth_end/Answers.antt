@@ -1,8 +1,3 @@
-use Prim.Native.Nat.{◌-◌}
-use native.Mathlib.Omega.{arith}
-use borrow.Author.Rules.{rules}
-use lib.ListN.{length}
-use Rattle.block_field_ends.specs.Internal.{Onward}
 use Rattle.block_field_ends.proofs.Steps.{leads-here, leads-on}
 use Rattle.block_field_ends.proofs.smooth_end.Goals as goal
 

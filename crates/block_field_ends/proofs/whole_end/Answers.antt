@@ -1,7 +1,6 @@
 -- `block_field_ends::whole_end` meets its contract: by those of its calls.
 use native.Mathlib.Omega.{arith}
 use mathlib.Core.Path.{refl}
-use borrow.Author.Rules.{rules}
 use Rattle.base_readers.proofs.Loops.{there-fits}
 use Rattle.block_field_ends.proofs.Steps.{first-feed, behind-feed, without-feed}
 use Rattle.block_field_ends.proofs.whole_end.Goals as goal

@@ -1,10 +1,4 @@
-use Prim.Native.Nat.{◌-◌}
-use borrow.Author.Rules.{rules}
-use lib.ListN.{length}
-use Rattle.base_readers.specs.Readers.{many}
-use Rattle.base_readers.specs.Places.{Reaches}
 use Rattle.base_readers.proofs.Loops.{reaches-start}
-use Rattle.block_rules.specs.Fields.{folded}
 use Rattle.block_lines.proofs.Lines.{folds-on, folds-off, folds-less}
 use Rattle.block_lines.proofs.folds_end.Goals as goal
 

@@ -1,12 +1,7 @@
-use Prim.Native.Nat.{◌+◌, ◌-◌, ◌≤◌}
 use native.Mathlib.Omega.{arith}
-use mathlib.Core.Path.{◌≡◌, sym}
-use mathlib.Core.Bool.{false}
-use borrow.Author.Rules.{rules}
+use mathlib.Core.Path.{sym}
 use Rattle.base_sequences.proofs.Booleans.{no_true}
-use Rattle.base_readers.specs.Places.{Reaches}
 use Rattle.base_readers.proofs.Loops.{piece-none, piece-more, piece-all}
-use Rattle.block_rules.specs.Fields.{line_text}
 use Rattle.block_lines.proofs.has_end.Goals as goal
 
 pub loop-j-init : goal.loop-j-init

@@ -1,8 +1,3 @@
-use Prim.Native.Nat.{◌-◌}
-use native.Mathlib.Omega.{arith}
-use borrow.Author.Rules.{rules}
-use lib.ListN.{length}
-use Rattle.base_readers.specs.Places.{Reaches}
 use Rattle.base_readers.proofs.Loops.{reaches-start, reaches-found, text-on}
 use Rattle.block_rules.specs.Fields.{in_line, line_text}
 use Rattle.block_lines.proofs.line_text.Goals as goal

@@ -1,7 +1,6 @@
 -- `explain_codes::byte_at` meets its contract: the number of two digits, or the byte itself.
 use native.Mathlib.Omega.{arith}
 use Rattle.explain_codes.proofs.Codes.{first_small, second-small, byte-of-code, byte-of-other}
-use borrow.Author.Rules.{rules}
 use Rattle.explain_codes.proofs.byte_at.Goals as goal
 
 pub overflow_mul-result : goal.overflow_mul-result

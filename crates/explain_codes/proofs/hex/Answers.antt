@@ -1,6 +1,5 @@
 -- `explain_codes::hex` meets its contract: each way out has its law in write_laws/proofs/HexDigits.antt.
 use Rattle.write_laws.proofs.HexDigits.{hex-below, hex-digit, hex-between, hex-letter, hex-above}
-use borrow.Author.Rules.{rules}
 use Rattle.explain_codes.proofs.hex.Goals as goal
 
 pub returns-then-b-lt48 : goal.returns-then-b-lt48

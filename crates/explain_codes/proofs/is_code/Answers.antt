@@ -1,6 +1,5 @@
 -- `explain_codes::is_code` meets its contract: each test is one of the definition.
 use Rattle.explain_codes.proofs.Codes.{code-no-percent, code-no-first, code-second}
-use borrow.Author.Rules.{rules}
 use Rattle.explain_codes.proofs.is_code.Goals as goal
 
 pub returns-then-byte-ne37 : goal.returns-then-byte-ne37

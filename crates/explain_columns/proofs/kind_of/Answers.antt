@@ -1,6 +1,5 @@
 -- `explain_columns::kind_of` meets its contract: one byte is looked up, and else each test in turn is a case of the definition.
 use Rattle.explain_columns.proofs.Columns.{is-letter, is_field, is-identifier, is-no-result, is-other}
-use borrow.Author.Rules.{rules}
 use Rattle.explain_columns.proofs.kind_of.Goals as goal
 
 pub returns-then-w-eq1 : goal.returns-then-w-eq1

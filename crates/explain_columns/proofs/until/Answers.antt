@@ -1,11 +1,4 @@
-use Prim.Native.Nat.{◌-◌}
-use native.Mathlib.Omega.{arith}
-use borrow.Author.Rules.{rules}
-use lib.ListN.{length}
-use Rattle.base_readers.specs.Readers.{run}
-use Rattle.base_readers.specs.Places.{Reaches}
 use Rattle.base_readers.proofs.Loops.{reaches-start, run_out}
-use Rattle.explain_columns.specs.Until.{except}
 use Rattle.explain_columns.proofs.Columns.{until-here, until-on}
 use Rattle.explain_columns.proofs.until.Goals as goal
 

@@ -1,6 +1,5 @@
 -- `explain_fields::is_byte` meets its contract: each test in turn is a case of the definition.
 use Rattle.explain_fields.proofs.Fields.{byte-long, byte-other, byte-same}
-use borrow.Author.Rules.{rules}
 use Rattle.explain_fields.proofs.is_byte.Goals as goal
 
 pub returns-then-w-ne1 : goal.returns-then-w-ne1

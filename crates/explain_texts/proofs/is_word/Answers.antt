@@ -1,8 +1,5 @@
-use Prim.Native.Nat.{◌-◌}
 use native.Mathlib.Omega.{arith}
-use lib.ListN.{length}
-use borrow.Author.Rules.{rules}
-use Rattle.explain_texts.proofs.Texts.{more-inside, Fine, fine-start, fine_more, fine-not, fine-done}
+use Rattle.explain_texts.proofs.Texts.{more-inside, fine-start, fine_more, fine-not, fine-done}
 use Rattle.explain_texts.proofs.is_word.Goals as goal
 
 pub loop-i-init : goal.loop-i-init

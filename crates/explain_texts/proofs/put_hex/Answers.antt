@@ -1,7 +1,6 @@
 -- `explain_texts::put_hex` meets its contract: the backslash, the letter and two digits one after the other.
 use native.Mathlib.Omega.{arith}
 use Rattle.explain_texts.proofs.Texts.{hex-put}
-use borrow.Author.Rules.{rules}
 use Rattle.explain_texts.proofs.put_hex.Goals as goal
 
 pub returns : goal.returns

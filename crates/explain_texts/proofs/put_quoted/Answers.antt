@@ -1,9 +1,4 @@
-use Prim.Native.Nat.{◌-◌}
 use native.Mathlib.Omega.{arith}
-use lib.ListN.{length, drop}
-use Rattle.base_sequences.proofs.Clips.{Going}
-use Rattle.explain_rules.specs.Texts.{decoded, quoted_bytes}
-use borrow.Author.Rules.{rules}
 use Rattle.explain_texts.proofs.Texts.{more-inside, quoted-start, quoted-more, quoted-done}
 use Rattle.explain_texts.proofs.put_quoted.Goals as goal
 

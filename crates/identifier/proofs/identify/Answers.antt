@@ -1,6 +1,5 @@
 -- `identifier::identify` meets its contract: each way through the code is a case of the definition.
 use Rattle.identifier.proofs.Identifiers.{identify-quoted, identify-token}
-use borrow.Author.Rules.{rules}
 use Rattle.identifier.proofs.identify.Goals as goal
 
 pub returns-then-is_at : goal.returns-then-is_at

@@ -1,7 +1,6 @@
 -- `identifier::in_identifier` meets its contract: each test is one of the definition.
 use native.Mathlib.Omega.{arith}
 use Rattle.identifier.proofs.Tokens.{byte_high, byte_low}
-use borrow.Author.Rules.{rules}
 use Rattle.identifier.proofs.in_identifier.Goals as goal
 
 pub returns-then-b-ge128 : goal.returns-then-b-ge128

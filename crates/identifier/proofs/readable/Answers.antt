@@ -1,6 +1,5 @@
 -- `identifier::readable` meets its contract: each test is one of the definition.
 use Rattle.identifier.proofs.Identifiers.{readable-none, readable-yes, readable-no}
-use borrow.Author.Rules.{rules}
 use Rattle.identifier.proofs.readable.Goals as goal
 
 pub returns-then-e-a : goal.returns-then-e-a

@@ -1,6 +1,5 @@
 -- `lexis_digits::counted_from` meets its contract: leading zeros, but the last of zeros alone.
 use Rattle.lexis_laws.proofs.Numbers.{counted-first, counted_none, counted-last}
-use borrow.Author.Rules.{rules}
 use Rattle.lexis_digits.proofs.counted_from.Goals as goal
 
 pub returns-then-z-end : goal.returns-then-z-end

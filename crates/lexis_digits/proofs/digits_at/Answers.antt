@@ -1,7 +1,6 @@
 -- `lexis_digits::digits_at` meets its contract: more than six digits that count make a large number, and others are summed up.
 use Rattle.lexis_laws.proofs.VersionNumbers.{counted-order, counted-run, digits-large, digits-exact}
 use native.Mathlib.Omega.{arith}
-use borrow.Author.Rules.{rules}
 use Rattle.lexis_digits.proofs.digits_at.Goals as goal
 
 pub overflow_sub-end : goal.overflow_sub-end

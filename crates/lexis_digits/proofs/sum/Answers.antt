@@ -1,7 +1,4 @@
-use Prim.Native.Nat.{◌-◌}
-use native.Mathlib.Omega.{arith}
-use borrow.Author.Rules.{rules}
-use Rattle.lexis_laws.proofs.VersionNumbers.{Summed, summed-start, summed-inside, summed-digit, summed-tens, summed-fits, summed-on, summed-end}
+use Rattle.lexis_laws.proofs.VersionNumbers.{summed-start, summed-inside, summed-digit, summed-tens, summed-fits, summed-on, summed-end}
 use Rattle.lexis_digits.proofs.sum.Goals as goal
 
 pub loop-k-init : goal.loop-k-init

@@ -1,9 +1,4 @@
-use Prim.Native.Nat.{◌-◌}
-use borrow.Author.Rules.{rules}
-use lib.ListN.{length}
-use Rattle.base_readers.specs.Places.{Reaches}
 use Rattle.base_readers.proofs.Loops.{reaches-start}
-use Rattle.lexis_rules.specs.Pieces.{space}
 use Rattle.lexis_comments.proofs.Loops.{at-comment, past-comment, past-comment-less, at_item, past-item, past-item-less}
 use Rattle.lexis_space.proofs.Loops.{blank-no-open}
 use Rattle.lexis_classes.proofs.Loops.{item-turn}

@@ -1,11 +1,4 @@
-use Prim.Native.Nat.{◌-◌}
-use native.Mathlib.Omega.{arith}
-use borrow.Author.Rules.{rules}
-use lib.ListN.{length}
-use Rattle.base_readers.specs.Readers.{run}
-use Rattle.base_readers.specs.Places.{Reaches}
 use Rattle.base_readers.proofs.Loops.{reaches-start, run_on}
-use Rattle.lexis_table.specs.Internal.{has_digit}
 use Rattle.lexis_table.proofs.Entries.{class-off, class-out}
 use Rattle.lexis_table.proofs.run_end.Goals as goal
 

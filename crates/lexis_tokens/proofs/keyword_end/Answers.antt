@@ -1,6 +1,5 @@
 -- `lexis_tokens::keyword_end` meets its contract: the run, and its last byte.
 use Rattle.lexis_tokens.proofs.Keywords.{keyword-empty, keyword-hyphen, keyword-there}
-use borrow.Author.Rules.{rules}
 use Rattle.lexis_tokens.proofs.keyword_end.Goals as goal
 
 pub returns-then-e-at : goal.returns-then-e-at

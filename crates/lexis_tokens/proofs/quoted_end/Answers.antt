@@ -1,6 +1,5 @@
 -- `lexis_tokens::quoted_end` meets its contract: a quote, the items, and a quote.
 use Rattle.base_readers.proofs.Loops.{there-fits, opens_not, closes, closes-not}
-use borrow.Author.Rules.{rules}
 use Rattle.lexis_tokens.proofs.quoted_end.Goals as goal
 
 pub overflow_add-at : goal.overflow_add-at

@@ -1,6 +1,5 @@
 -- `lexis_tokens::value_at` meets its contract: each way through the code is a case of the definition.
 use Rattle.lexis_laws.proofs.Values.{value-unclosed, value-quoted, value_none, value-token}
-use borrow.Author.Rules.{rules}
 use Rattle.lexis_tokens.proofs.value_at.Goals as goal
 
 pub returns-then-e-at : goal.returns-then-e-at

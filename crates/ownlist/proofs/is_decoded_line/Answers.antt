@@ -4,7 +4,6 @@ use mathlib.Core.Path.{sym}
 use lib.Seq.{length-take-le}
 use Rattle.ownlist_spelled.proofs.Spelt.{spelt}
 use Rattle.ownlist.proofs.Texts.{spelt-long, spelt-line}
-use borrow.Author.Rules.{rules}
 use Rattle.ownlist.proofs.is_decoded_line.Goals as goal
 
 pub returns-then-n-gt-LONGEST : goal.returns-then-n-gt-LONGEST

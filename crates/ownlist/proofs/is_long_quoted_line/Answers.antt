@@ -6,7 +6,6 @@ use lib.Seq.{length-take-le}
 use Rattle.base_sequences.proofs.Splices.{put-long}
 use Rattle.lexis_rules.specs.Words.{quoted_text}
 use Rattle.ownlist.proofs.Texts.{text-long, text-line}
-use borrow.Author.Rules.{rules}
 use Rattle.ownlist.proofs.is_long_quoted_line.Goals as goal
 
 pub returns-then-n-gt-UNSPELLED : goal.returns-then-n-gt-UNSPELLED

@@ -6,7 +6,6 @@ use lib.Seq.{length-take-le}
 use Rattle.base_sequences.proofs.Splices.{put-long}
 use Rattle.lexis_rules.specs.Words.{quoted_text}
 use Rattle.ownlist.proofs.Texts.{text-line}
-use borrow.Author.Rules.{rules}
 use Rattle.ownlist.proofs.is_quoted_line.Goals as goal
 
 pub slice_bounds-is_spelled_line-end : goal.slice_bounds-is_spelled_line-end

@@ -1,6 +1,5 @@
 -- `ownlist::is_spelled_line` meets its contract: a text without two hyphens in a row is its own spelling.
 use Rattle.ownlist.proofs.Texts.{plain-long, plain-line}
-use borrow.Author.Rules.{rules}
 use Rattle.ownlist.proofs.is_spelled_line.Goals as goal
 
 pub returns-then-text-gt-LONGEST : goal.returns-then-text-gt-LONGEST

@@ -3,7 +3,6 @@ use mathlib.Core.Path.{sym}
 use lib.Seq.{length-take-le}
 use Rattle.ownlist_spelled.proofs.Fits.{fits-room, fits-own}
 use Rattle.ownlist.proofs.Owners.{whose-list}
-use borrow.Author.Rules.{rules}
 use Rattle.ownlist.proofs.whose.Goals as goal
 
 pub slice_bounds-own-end : goal.slice_bounds-own-end

@@ -1,13 +1,8 @@
 -- `ownlist::whose_among` meets its contract: where the identifier is read, the lines are asked for its text.
-use Prim.Native.Nat.{◌≤◌}
 use native.Mathlib.Omega.{arith}
-use mathlib.Core.Path.{◌≡◌, sym, ◌∙◌}
-use lib.ListN.{length}
-use Rattle.identifier.specs.declared.Identifier.TheVariants.{Readable}
-use Rattle.identifier.specs.Answers.{identifier_at}
+use mathlib.Core.Path.{sym, ◌∙◌}
 use Rattle.identifier.proofs.Identifiers.{identifier-inside}
 use Rattle.ownlist.proofs.Owners.{whose-none, whose-quoted, whose-token}
-use borrow.Author.Rules.{rules}
 use Rattle.ownlist.proofs.whose_among.Goals as goal
 
 pub returns-in_default : goal.returns-in_default

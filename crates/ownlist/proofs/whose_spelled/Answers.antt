@@ -1,11 +1,8 @@
-use Prim.Native.Nat.{◌-◌}
 use native.Mathlib.Omega.{arith}
 use mathlib.Core.Path.{refl, sym, ◌∙◌}
-use borrow.Author.Rules.{rules}
-use lib.ListN.{length}
 use lib.Seq.{length-take-le}
 use Rattle.base_sequences.proofs.Splices.{put-long}
-use Rattle.ownlist.proofs.Owners.{Asking, ask-start, ask-all, ask-ours, ask-unreadable, ask-more, last-inside}
+use Rattle.ownlist.proofs.Owners.{ask-start, ask-all, ask-ours, ask-unreadable, ask-more, last-inside}
 use Rattle.ownlist.proofs.whose_spelled.Goals as goal
 
 pub loop-ends-init : goal.loop-ends-init

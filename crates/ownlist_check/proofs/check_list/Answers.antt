@@ -1,9 +1,6 @@
-use Prim.Native.Nat.{◌-◌}
 use native.Mathlib.Omega.{arith}
 use mathlib.Core.Path.{sym, ◌∙◌}
-use borrow.Author.Rules.{rules}
-use lib.ListN.{length}
-use Rattle.ownlist_check.proofs.EntrySteps.{Taken, entries_next, Checking, check-start, check-end, check-bad, check-more}
+use Rattle.ownlist_check.proofs.EntrySteps.{entries_next, check-start, check-end, check-bad, check-more}
 use Rattle.ownlist_check.proofs.check_list.Goals as goal
 
 pub loop-end-init : goal.loop-end-init

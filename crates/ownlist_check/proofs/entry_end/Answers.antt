@@ -1,7 +1,6 @@
 -- `ownlist_check::entry_end` meets its contract: the text of an entry, its length, and LF.
 use Rattle.base_readers.proofs.Loops.{there-fits}
 use Rattle.ownlist_check.proofs.EntrySteps.{entry-empty, entry-long, entry-no, entry-yes}
-use borrow.Author.Rules.{rules}
 use Rattle.ownlist_check.proofs.entry_end.Goals as goal
 
 pub returns-then-e-at : goal.returns-then-e-at

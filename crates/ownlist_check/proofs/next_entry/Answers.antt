@@ -1,7 +1,6 @@
 -- `ownlist_check::next_entry` meets its contract: each test of the code is one case of the definition.
 use Rattle.ownlist_check.proofs.EntrySteps.{listed-end, listed-bad, listed-many, listed-entry}
 use native.Mathlib.Omega.{arith}
-use borrow.Author.Rules.{rules}
 use Rattle.ownlist_check.proofs.next_entry.Goals as goal
 
 pub returns-then-s-at : goal.returns-then-s-at

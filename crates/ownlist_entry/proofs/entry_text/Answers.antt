@@ -1,6 +1,5 @@
 -- `ownlist_entry::entry_text` meets its contract: a run of visible bytes ends the text where no byte from 128 up follows.
 use native.Mathlib.Omega.{arith}
-use borrow.Author.Rules.{rules}
 use Rattle.ownlist_entry.proofs.Sequences.{text-plain, text-past}
 use Rattle.ownlist_entry.proofs.entry_text.Goals as goal
 

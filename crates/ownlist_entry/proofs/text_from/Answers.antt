@@ -1,9 +1,5 @@
-use Prim.Native.Nat.{◌-◌}
 use borrow.Author.Rules.{rules}
-use lib.ListN.{length}
-use Rattle.base_readers.specs.Places.{Reaches}
 use Rattle.base_readers.proofs.Loops.{reaches-start}
-use Rattle.ownlist_rules.specs.OwnList.{entry_text}
 use Rattle.ownlist_entry.proofs.Sequences.{text-end, text-fits, text-less, text-more}
 use Rattle.ownlist_entry.proofs.text_from.Goals as goal
 

@@ -1,8 +1,5 @@
-use Prim.Native.Nat.{◌-◌}
 use native.Mathlib.Omega.{arith}
-use borrow.Author.Rules.{rules}
-use lib.ListN.{length}
-use Rattle.ownlist_lines.proofs.Lines.{Seeking, seek-start, seek-end, seek_hit, seek-more}
+use Rattle.ownlist_lines.proofs.Lines.{seek-start, seek-end, seek_hit, seek-more}
 use Rattle.ownlist_lines.proofs.is_line.Goals as goal
 
 pub loop-k-init : goal.loop-k-init

@@ -1,5 +1,4 @@
 -- `ownlist_lines::is_span` meets its contract: bytes of another length are not alike, and where there are none the text has none.
-use borrow.Author.Rules.{rules}
 use Rattle.ownlist_lines.proofs.Lines.{span-other, span-empty}
 use Rattle.ownlist_lines.proofs.is_span.Goals as goal
 

@@ -3,7 +3,6 @@ use native.Mathlib.Omega.{arith}
 use mathlib.Core.Path.{sym}
 use lib.Seq.{length-take-le}
 use Rattle.ownlist_spelled.proofs.Spelt.{spelt, entry-small, entry-put}
-use borrow.Author.Rules.{rules}
 use Rattle.ownlist_spelled.proofs.put_entry.Goals as goal
 
 pub slice_bounds-spelled-end : goal.slice_bounds-spelled-end

@@ -1,12 +1,7 @@
-use Prim.Native.Nat.{◌-◌}
 use native.Mathlib.Omega.{arith}
-use mathlib.Core.Path.{◌≡◌, sym, ◌∙◌}
-use borrow.Author.Rules.{rules}
-use lib.ListN.{length, drop}
-use Rattle.ownlist_check.specs.declared.Listed.TheVariants.{Entry}
-use Rattle.ownlist_check.specs.Steps.{listed_from}
-use Rattle.ownlist_check.proofs.EntrySteps.{Taken, entries_next}
-use Rattle.ownlist_spelled.proofs.Spelt.{Spelling, spell-start, spell-end, spell-bad, spell-short, spell-place, spell-size, spell-more}
+use mathlib.Core.Path.{sym, ◌∙◌}
+use Rattle.ownlist_check.proofs.EntrySteps.{entries_next}
+use Rattle.ownlist_spelled.proofs.Spelt.{spell-start, spell-end, spell-bad, spell-short, spell-place, spell-size, spell-more}
 use Rattle.ownlist_spelled.proofs.spell_list.Goals as goal
 
 pub loop-start-init : goal.loop-start-init

@@ -1,11 +1,8 @@
 -- `punycode::decode` meets its contract: what the decoder tells is the answer; a label of so few bytes has no more code points than
 -- there is room for.
 use native.Mathlib.Omega.{arith}
-use Rattle.punycode.specs.declared.decoding.Points.TheVariants.{Read}
-use Rattle.punycode.specs.Internal.{Tells}
 use Rattle.punycode.proofs.Labelling.{told-points}
 use Rattle.punycode.proofs.Answering.{decode-long, decode-failed, decode-never, decode-text}
-use borrow.Author.Rules.{rules}
 use Rattle.punycode.proofs.decode.Goals as goal
 
 pub returns-then-label-gt-LONGEST : goal.returns-then-label-gt-LONGEST

@@ -4,7 +4,6 @@ use mathlib.Core.Path.{sym}
 use lib.Seq.{length-take-le}
 use Rattle.base_sequences.proofs.Splices.{put-long}
 use Rattle.punycode.proofs.Answering.{spell-over, spell-fits}
-use borrow.Author.Rules.{rules}
 use Rattle.punycode.proofs.spell.Goals as goal
 
 pub returns-then-n-gt-LONGEST : goal.returns-then-n-gt-LONGEST

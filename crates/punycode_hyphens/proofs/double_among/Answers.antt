@@ -1,7 +1,5 @@
-use Prim.Native.Nat.{◌-◌, ◌≤◌}
 use native.Mathlib.Omega.{arith}
-use borrow.Author.Rules.{rules}
-use Rattle.punycode_hyphens.proofs.Doubles.{Scanned, scanned-start, scanned-on, scanned-all}
+use Rattle.punycode_hyphens.proofs.Doubles.{scanned-start, scanned-on, scanned-all}
 use Rattle.punycode_hyphens.proofs.double_among.Goals as goal
 
 pub loop-j-init : goal.loop-j-init

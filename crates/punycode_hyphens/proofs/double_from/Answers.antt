@@ -1,8 +1,5 @@
-use Prim.Native.Nat.{◌-◌}
 use native.Mathlib.Omega.{arith}
-use borrow.Author.Rules.{rules}
-use lib.ListN.{length}
-use Rattle.punycode_hyphens.proofs.Doubles.{Passed, passed_start, passed-end, passed-one, passed-two, passed-both}
+use Rattle.punycode_hyphens.proofs.Doubles.{passed_start, passed-end, passed-one, passed-two, passed-both}
 use Rattle.punycode_hyphens.proofs.double_from.Goals as goal
 
 pub loop-at-init : goal.loop-at-init

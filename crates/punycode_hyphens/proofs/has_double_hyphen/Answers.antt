@@ -1,8 +1,4 @@
-use Prim.Native.Nat.{◌-◌}
-use native.Mathlib.Omega.{arith}
-use borrow.Author.Rules.{rules}
-use lib.ListN.{length}
-use Rattle.punycode_hyphens.proofs.Doubles.{Passed, passed-part, passed-rest}
+use Rattle.punycode_hyphens.proofs.Doubles.{passed-part, passed-rest}
 use Rattle.punycode_hyphens.proofs.has_double_hyphen.Goals as goal
 
 pub loop-i-init : goal.loop-i-init

@@ -1,8 +1,4 @@
-use Prim.Native.Nat.{◌-◌}
-use native.Mathlib.Omega.{arith}
-use borrow.Author.Rules.{rules}
-use lib.ListN.{length}
-use Rattle.punycode_hyphens.proofs.Doubles.{Passed, passed_start, passed-part}
+use Rattle.punycode_hyphens.proofs.Doubles.{passed_start, passed-part}
 use Rattle.punycode_hyphens.proofs.plain_front.Goals as goal
 
 pub loop-i-init : goal.loop-i-init

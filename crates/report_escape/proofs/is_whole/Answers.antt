@@ -1,9 +1,5 @@
-use Prim.Native.Nat.{◌-◌, ◌≤◌}
 use native.Mathlib.Omega.{arith}
-use lib.ListN.{length}
 use Rattle.base_sequences.proofs.Booleans.{no_true}
-use Rattle.base_readers.specs.Readers.{run}
-use Rattle.base_readers.specs.Places.{Reaches}
 use Rattle.base_readers.proofs.Loops.{reaches-start, text-on}
 use Rattle.report_escape.specs.Internal.{verbatim}
 use Rattle.report_escape.proofs.Escapes.{whole-text}

@@ -1,11 +1,8 @@
 -- `report_escape::near` meets its contract: from each place of the loop the run ends where it ends from the first.
 use Prim.Native.Nat.{◌-◌}
-use native.Mathlib.Omega.{arith}
-use borrow.Author.Rules.{rules}
 use lib.ListN.{length}
 use Rattle.base_readers.specs.Readers.{run}
 use Rattle.base_readers.specs.Places.{Reaches}
-use Rattle.base_readers.proofs.Loops.{reaches-start, run_on, run-off, run_out}
 use Rattle.report_escape.specs.Internal.{verbatim}
 use Rattle.report_escape.proofs.near.Given as goal
 

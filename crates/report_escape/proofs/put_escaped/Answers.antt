@@ -1,8 +1,4 @@
-use Prim.Native.Nat.{◌-◌}
-use native.Mathlib.Omega.{arith}
-use lib.ListN.{length}
-use borrow.Author.Rules.{rules}
-use Rattle.report_escape.proofs.Escapes.{Escaping, verbatim-after, verbatim-within, verbatim-less, whole-put, escaping-start, escaping-done, escaping-run, escaping-one}
+use Rattle.report_escape.proofs.Escapes.{verbatim-after, verbatim-within, verbatim-less, whole-put, escaping-start, escaping-done, escaping-run, escaping-one}
 use Rattle.report_escape.proofs.put_escaped.Goals as goal
 
 pub returns-then-is_whole : goal.returns-then-is_whole

@@ -1,13 +1,8 @@
-use Prim.Native.Nat.{◌-◌}
-use native.Mathlib.Omega.{arith}
-use lib.ListN.{length, drop}
-use borrow.Author.Rules.{rules}
 use Rattle.base_readers.proofs.Loops.{turn-fits, turn-less}
 use Rattle.lexis_rules.specs.declared.Class.TheVariants.{Quoted}
 use Rattle.lexis_rules.specs.Pieces.{item}
-use Rattle.lexis_rules.specs.Words.{quoted_text}
 use Rattle.lexis_laws.proofs.Pieces.{item-fits}
-use Rattle.report_escape.proofs.Escapes.{Quoting, verbatim-after, quoted-past, quoting-start, quoting-done, quoting-more, quoting-run, quoting-inside, quoting-less}
+use Rattle.report_escape.proofs.Escapes.{verbatim-after, quoted-past, quoting-start, quoting-done, quoting-more, quoting-run, quoting-inside, quoting-less}
 use Rattle.report_escape.proofs.put_quoted.Goals as goal
 
 pub returns-then-at-s : goal.returns-then-at-s

@@ -1,6 +1,5 @@
 -- `report_lines::parts_of` meets its contract: each kind of value has its parts.
 use mathlib.Core.Path.{sym, ap}
-use borrow.Author.Rules.{rules}
 use Rattle.report_lines.specs.Internal.{parts_of}
 use Rattle.report_lines.proofs.parts_of.Goals as goal
 

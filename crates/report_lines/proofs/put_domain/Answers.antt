@@ -1,6 +1,5 @@
 -- `report_lines::put_domain` meets its contract: "@" and then the domain are the whole text, and where no domain can stand it is empty.
 use native.Mathlib.Omega.{arith}
-use borrow.Author.Rules.{rules}
 use Rattle.report_lines.proofs.Columns.{unsigned-put, domain-put, domain-none}
 use Rattle.report_lines.proofs.put_domain.Goals as goal
 

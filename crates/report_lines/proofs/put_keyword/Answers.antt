@@ -1,5 +1,4 @@
 -- `report_lines::put_keyword` meets its contract: the tab and then the keyword are the whole text.
-use borrow.Author.Rules.{rules}
 use Rattle.report_lines.proofs.Columns.{keyword-put, keyword-full}
 use Rattle.report_lines.proofs.put_keyword.Goals as goal
 

@@ -1,5 +1,4 @@
 -- `report_lines::put_value_text` meets its contract: each branch writes the text that is meant there.
-use borrow.Author.Rules.{rules}
 use Rattle.report_lines.proofs.Columns.{quoted-put, bare-put}
 use Rattle.report_lines.proofs.put_value_text.Goals as goal
 

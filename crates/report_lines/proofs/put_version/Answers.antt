@@ -1,5 +1,4 @@
 -- `report_lines::put_version` meets its contract: the columns one after another are the whole line.
-use borrow.Author.Rules.{rules}
 use Rattle.report_lines.proofs.Columns.{version-put}
 use Rattle.report_lines.proofs.put_version.Goals as goal
 

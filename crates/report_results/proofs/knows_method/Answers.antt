@@ -1,5 +1,4 @@
 -- `report_results::knows_method` meets its contract: where the version is understood, the table decides.
-use borrow.Author.Rules.{rules}
 use Rattle.report_results.proofs.Turns.{version-known, version-unknown}
 use Rattle.report_results.proofs.knows_method.Goals as goal
 

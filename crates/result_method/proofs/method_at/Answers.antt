@@ -1,6 +1,5 @@
 -- `result_method::method_at` meets its contract: each way through the code is a case of the definition.
 use Rattle.result_method.proofs.Methods.{method-no-name, method-no-equals, method-no-result, method-read}
-use borrow.Author.Rules.{rules}
 use Rattle.result_method.proofs.method_at.Goals as goal
 
 pub returns-then-end-at : goal.returns-then-end-at

@@ -1,6 +1,5 @@
 -- `result_method::method_version_at` meets its contract: each way through the code is a case of the definition.
 use Rattle.result_method.proofs.Methods.{version-no-slash, version-no-digits, version-stated}
-use borrow.Author.Rules.{rules}
 use Rattle.result_method.proofs.method_version_at.Goals as goal
 
 pub returns-then-a-at : goal.returns-then-a-at

@@ -1,7 +1,6 @@
 -- `result_parts::reason_from` meets its contract: each way through the code is a case of the definition.
 use native.Mathlib.Omega.{arith}
 use Rattle.result_parts.proofs.Reasons.{reason-no-space, reason-no-word, reason-no-equals, reason-value}
-use borrow.Author.Rules.{rules}
 use Rattle.result_parts.proofs.reason_from.Goals as goal
 
 pub returns-then-word-at : goal.returns-then-word-at

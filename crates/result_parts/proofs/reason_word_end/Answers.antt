@@ -1,7 +1,6 @@
 -- `result_parts::reason_word_end` meets its contract: its first letter, and then a keyword and whether it is the word.
 use Rattle.result_separators.proofs.Separators.{word-inside}
 use Rattle.result_parts.proofs.Reasons.{word-starts-not, word-empty, word-there, word-other}
-use borrow.Author.Rules.{rules}
 use Rattle.result_parts.proofs.reason_word_end.Goals as goal
 
 pub returns-then-lower-ne114 : goal.returns-then-lower-ne114

@@ -1,7 +1,6 @@
 -- `result_separators::separator_from` meets its contract: the byte and space, or another byte.
 use native.Mathlib.Omega.{arith}
 use Rattle.result_separators.proofs.Separators.{separator-fits, separator-there, separator-missing}
-use borrow.Author.Rules.{rules}
 use Rattle.result_separators.proofs.separator_from.Goals as goal
 
 pub overflow_add-a : goal.overflow_add-a

@@ -1,6 +1,5 @@
 -- `result_steps::is_closed` meets its contract: by the byte that comes next.
 use Rattle.result_steps.proofs.Steps.{end-at, end-over}
-use borrow.Author.Rules.{rules}
 use Rattle.result_steps.proofs.is_closed.Goals as goal
 
 pub returns-then-at-s : goal.returns-then-at-s

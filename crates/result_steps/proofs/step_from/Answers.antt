@@ -1,7 +1,6 @@
 -- `result_steps::step_from` meets its contract: by what stands before a property value.
 use mathlib.Core.Path.{sym, ◌∙◌}
 use Rattle.result_steps.proofs.Steps.{step-property, step_end}
-use borrow.Author.Rules.{rules}
 use Rattle.result_steps.proofs.step_from.Goals as goal
 
 pub returns-in-Read : goal.returns-in-Read

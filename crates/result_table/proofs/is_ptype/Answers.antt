@@ -3,7 +3,6 @@ use Prim.Native.Nat.{ℕ}
 use mathlib.Core.Path.{refl, ap, ◌∙◌}
 use lib.Dec.{ltb}
 use lib.ListN.{length}
-use borrow.Author.Rules.{rules}
 use Rattle.base_readers.specs.Texts.{within}
 use Rattle.lexis_rules.specs.Bytes.{lower}
 use Rattle.result_rules.specs.Table.{ptypes}

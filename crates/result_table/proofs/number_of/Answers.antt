@@ -1,10 +1,6 @@
-use Prim.Native.Nat.{◌-◌, ◌≤◌, ◌<◌}
 use mathlib.Core.Path.{sym}
-use mathlib.Core.List.{[]}
-use borrow.Author.Rules.{rules}
-use lib.ListN.{length, get_or}
 use lib.Seq.{length-take-le}
-use Rattle.result_table.proofs.Numbered.{Passed, fits-at, passed_none, passed-all, passed-hit, passed-more, passed-other}
+use Rattle.result_table.proofs.Numbered.{fits-at, passed_none, passed-all, passed-hit, passed-more, passed-other}
 use Rattle.result_table.proofs.number_of.Goals as goal
 
 pub loop-i-init : goal.loop-i-init

@@ -1,6 +1,5 @@
 -- `result_values::address_at` meets its contract: each way through the code is a case of the definition.
 use Rattle.result_values.proofs.ValueCases.{address-empty, address-sound, address-dots}
-use borrow.Author.Rules.{rules}
 use Rattle.result_values.proofs.address_at.Goals as goal
 
 pub returns-then-sign-at : goal.returns-then-sign-at

@@ -1,6 +1,5 @@
 -- `result_values::quoted_at` meets its contract: each way through the code is a case of the definition.
 use Rattle.result_values.proofs.ValueCases.{sign-there, quoted-none, quoted-mailbox, quoted-read}
-use borrow.Author.Rules.{rules}
 use Rattle.result_values.proofs.quoted_at.Goals as goal
 
 pub returns-then-e-at : goal.returns-then-e-at

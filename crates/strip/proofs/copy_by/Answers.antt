@@ -1,6 +1,7 @@
 -- `strip::copy_by` meets its contract: where there are as many fields as marks there is room for each, and one law for each way out.
+use mathlib.Core.Bool.{not}
 use native.Mathlib.Omega.{arith}
-use mathlib.Core.Path.{refl, sym}
+use mathlib.Core.Path.{refl, sym, ap}
 use lib.Seq.{length-take-le}
 use borrow.Author.Rules.{rules}
 use Rattle.strip.proofs.Ends.{few, copy-refused, copy-other, copy-13, copy-6, copy-0, marks-room, stops-room}
@@ -19,10 +20,10 @@ pub slice_bounds-is_same-end-2 : goal.slice_bounds-is_same-end-2
 slice_bounds-is_same-end-2 c = sym (length-take-le _ _ (marks-room c.args.s.now c.args.list.now _ _ _ _ _ c.sift_listed-found.ensures c.if-found-ne-DONE.false (omega (arith, few c.args.s.now c.args.list.now _ _ _ _ _ c.sift_listed-found.ensures c.if-found-ne-DONE.false, c.requires.0, c.if-found-marks.false))))
 
 pub returns-then-not-is_same : goal.returns-then-not-is_same
-returns-then-not-is_same c = copy-13 c.args.s.now c.args.list.now _ _ _ _ _ c.sift_listed-found.ensures c.if-found-ne-DONE.false (omega (arith, few c.args.s.now c.args.list.now _ _ _ _ _ c.sift_listed-found.ensures c.if-found-ne-DONE.false, c.requires.0, c.if-found-marks.false)) c.args.marks.now c.args.out.now _ _ c.is_same.ensures c.if-not-is_same.true c.refuse-then-not-is_same.ensures
+returns-then-not-is_same c = copy-13 c.args.s.now c.args.list.now _ _ _ _ _ c.sift_listed-found.ensures c.if-found-ne-DONE.false (omega (arith, few c.args.s.now c.args.list.now _ _ _ _ _ c.sift_listed-found.ensures c.if-found-ne-DONE.false, c.requires.0, c.if-found-marks.false)) c.args.marks.now c.args.out.now _ _ c.is_same.ensures (ap not c.if-not-is_same.true) c.refuse-then-not-is_same.ensures
 
 pub returns-then-kept-out : goal.returns-then-kept-out
-returns-then-kept-out c = copy-6 c.args.s.now c.args.list.now _ _ _ _ _ c.sift_listed-found.ensures c.if-found-ne-DONE.false (omega (arith, few c.args.s.now c.args.list.now _ _ _ _ _ c.sift_listed-found.ensures c.if-found-ne-DONE.false, c.requires.0, c.if-found-marks.false)) c.args.marks.now c.args.out.now _ c.is_same.ensures c.if-not-is_same.false _ c.rest-kept.ensures _ c.if-kept-out.true c.refuse-then-kept-out.ensures
+returns-then-kept-out c = copy-6 c.args.s.now c.args.list.now _ _ _ _ _ c.sift_listed-found.ensures c.if-found-ne-DONE.false (omega (arith, few c.args.s.now c.args.list.now _ _ _ _ _ c.sift_listed-found.ensures c.if-found-ne-DONE.false, c.requires.0, c.if-found-marks.false)) c.args.marks.now c.args.out.now _ c.is_same.ensures (ap not c.if-not-is_same.false) _ c.rest-kept.ensures _ c.if-kept-out.true c.refuse-then-kept-out.ensures
 
 pub slice_bounds-put_unmarked-end : goal.slice_bounds-put_unmarked-end
 slice_bounds-put_unmarked-end c = stops-room c.args.s.now c.args.list.now _ _ _ _ _ c.sift_listed-found.ensures c.if-found-ne-DONE.false (omega (arith, few c.args.s.now c.args.list.now _ _ _ _ _ c.sift_listed-found.ensures c.if-found-ne-DONE.false, c.requires.1, c.if-found-marks.false))
@@ -31,4 +32,4 @@ pub slice_bounds-put_unmarked-end-2 : goal.slice_bounds-put_unmarked-end-2
 slice_bounds-put_unmarked-end-2 c = sym (length-take-le _ _ (stops-room c.args.s.now c.args.list.now _ _ _ _ _ c.sift_listed-found.ensures c.if-found-ne-DONE.false (omega (arith, few c.args.s.now c.args.list.now _ _ _ _ _ c.sift_listed-found.ensures c.if-found-ne-DONE.false, c.requires.1, c.if-found-marks.false))))
 
 pub returns : goal.returns
-returns c = copy-0 c.args.s.now c.args.list.now _ _ _ _ _ c.sift_listed-found.ensures c.if-found-ne-DONE.false (omega (arith, few c.args.s.now c.args.list.now _ _ _ _ _ c.sift_listed-found.ensures c.if-found-ne-DONE.false, c.requires.0, c.if-found-marks.false)) c.args.marks.now c.args.out.now _ c.is_same.ensures c.if-not-is_same.false _ c.rest-kept.ensures (omega (arith, few c.args.s.now c.args.list.now _ _ _ _ _ c.sift_listed-found.ensures c.if-found-ne-DONE.false, c.requires.1, c.if-found-marks.false)) _ _ _ c.if-kept-out.false c.put_unmarked.ensures refl
+returns c = copy-0 c.args.s.now c.args.list.now _ _ _ _ _ c.sift_listed-found.ensures c.if-found-ne-DONE.false (omega (arith, few c.args.s.now c.args.list.now _ _ _ _ _ c.sift_listed-found.ensures c.if-found-ne-DONE.false, c.requires.0, c.if-found-marks.false)) c.args.marks.now c.args.out.now _ c.is_same.ensures (ap not c.if-not-is_same.false) _ c.rest-kept.ensures (omega (arith, few c.args.s.now c.args.list.now _ _ _ _ _ c.sift_listed-found.ensures c.if-found-ne-DONE.false, c.requires.1, c.if-found-marks.false)) _ _ _ c.if-kept-out.false c.put_unmarked.ensures refl

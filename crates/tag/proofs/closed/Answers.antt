@@ -1,5 +1,4 @@
 -- `tag::closed` meets its contract: the end of the body, or a ";".
-use borrow.Author.Rules.{rules}
 use Rattle.tag.proofs.TagParts.{closed-end, closed-mark, closed-not}
 use Rattle.tag.proofs.closed.Goals as goal
 

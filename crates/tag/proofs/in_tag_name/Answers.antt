@@ -4,7 +4,6 @@ use mathlib.Core.Path.{◌∙◌}
 use Rattle.base_readers.specs.Texts.{within}
 use Rattle.lexis_rules.specs.Bytes.{letter, in_class}
 use Rattle.tag_rules.specs.Tags.{in_tag_name}
-use borrow.Author.Rules.{rules}
 use Rattle.tag.proofs.in_tag_name.Goals as goal
 
 pub returns-then-b-eq95 : goal.returns-then-b-eq95

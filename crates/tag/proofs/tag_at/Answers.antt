@@ -1,7 +1,6 @@
 -- `tag::tag_at` meets its contract: each way through the code is a case of the definition.
 use native.Mathlib.Omega.{arith}
 use mathlib.Core.Path.{refl}
-use borrow.Author.Rules.{rules}
 use Rattle.base_readers.proofs.Loops.{there-fits}
 use Rattle.tag.proofs.TagParts.{at-no-name, at-no-equals, at-closed}
 use Rattle.tag.proofs.tag_at.Goals as goal

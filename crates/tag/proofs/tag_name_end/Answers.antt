@@ -1,5 +1,4 @@
 -- `tag::tag_name_end` meets its contract: a letter and the run that it starts.
-use borrow.Author.Rules.{rules}
 use Rattle.tag.proofs.TagParts.{name-there, name-missing}
 use Rattle.tag.proofs.tag_name_end.Goals as goal
 

@@ -1,11 +1,6 @@
-use Prim.Native.Nat.{◌-◌}
-use lib.ListN.{length}
-use borrow.Author.Rules.{rules}
-use Rattle.base_readers.specs.Places.{Reaches}
 use Rattle.base_readers.proofs.Loops.{reaches-start}
 use Rattle.lexis_classes.proofs.Loops.{item-turn}
 use Rattle.lexis_comments.proofs.Loops.{past-item-less}
-use Rattle.tag_rules.specs.Tags.{tag_value}
 use Rattle.tag.proofs.TagParts.{value_on, value-off}
 use Rattle.tag.proofs.value_end.Goals as goal
 

@@ -1,11 +1,6 @@
-use Prim.Native.Nat.{◌-◌}
 use native.Mathlib.Omega.{arith}
-use borrow.Author.Rules.{rules}
-use lib.ListN.{length}
-use Rattle.tag.specs.declared.Tag.TheVariants.{Read}
-use Rattle.tag.specs.Tags.{TagFound}
-use Rattle.tag_content.proofs.TagsRead.{told-tag, found-named}
-use Rattle.tag_list.proofs.Linking.{Linking, linking-start, linking-bucket, linking-seeks, linking-twice, linking-on, linking-end}
+use Rattle.tag_content.proofs.TagsRead.{told-tag}
+use Rattle.tag_list.proofs.Linking.{linking-start, linking-bucket, linking-seeks, linking-twice, linking-on, linking-end}
 use Rattle.tag_list.proofs.collect_linked.Goals as goal
 
 pub loop-start-init : goal.loop-start-init

@@ -1,5 +1,4 @@
 -- `tag_list::list_at` meets its contract: a body that is too long has no list that is read.
-use borrow.Author.Rules.{rules}
 use Rattle.tag_content.proofs.TagLists.{list-long, list-fits}
 use Rattle.tag_list.proofs.list_at.Goals as goal
 

@@ -1,5 +1,4 @@
 -- `tag_list::list_of_many` meets its contract: where the linked table can't tell, the one in order is never full.
-use mathlib.Core.Path.{sym}
 use Rattle.tag_list.proofs.Answers.{many-room, attempt-read, attempt-unreadable, many-said}
 use borrow.Author.Rules.{rules}
 use Rattle.tag_list.proofs.list_of_many.Goals as goal

@@ -1,6 +1,5 @@
 -- `tag_list::listed_as` meets its contract: each case is one of the definition.
 use mathlib.Core.Path.{sym, ap}
-use borrow.Author.Rules.{rules}
 use Rattle.tag_list.specs.Internal.{listed_as}
 use Rattle.tag_list.proofs.listed_as.Goals as goal
 

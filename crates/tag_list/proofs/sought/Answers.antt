@@ -1,7 +1,6 @@
 -- `tag_list::sought` meets its contract: i is taken, and any other name is looked for.
 use Rattle.tag_content.specs.Tests.{kept}
 use Rattle.tag_list.proofs.Linking.{sought-i, sought-not-i}
-use borrow.Author.Rules.{rules}
 use Rattle.tag_list.proofs.sought.Goals as goal
 
 pub returns-then-is_named : goal.returns-then-is_named

@@ -1,6 +1,5 @@
 -- `tag_list::try_linked` meets its contract: the tests of what was collected.
 use Rattle.tag_content.proofs.TagLists.{in-use-long, collected-fits, collected-told, collected-unsound}
-use borrow.Author.Rules.{rules}
 use Rattle.tag_list.proofs.try_linked.Goals as goal
 
 pub slice_bounds-told-end : goal.slice_bounds-told-end

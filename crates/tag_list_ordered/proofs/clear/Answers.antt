@@ -1,7 +1,6 @@
-use Prim.Native.Nat.{◌-◌}
 use native.Mathlib.Omega.{arith}
-use lib.ListN.{length, length-set}
-use Rattle.tag_list_ordered.proofs.Clearing.{Clearing, clearing-start, clearing-on, clearing-end}
+use lib.ListN.{length-set}
+use Rattle.tag_list_ordered.proofs.Clearing.{clearing-start, clearing-on, clearing-end}
 use Rattle.tag_list_ordered.proofs.clear.Goals as goal
 
 pub loop-k-init : goal.loop-k-init

@@ -1,8 +1,7 @@
 -- `tag_list_ordered::clear` meets its contract: what is passed is zeros.
 use Prim.Native.Nat.{◌-◌}
-use native.Mathlib.Omega.{arith}
-use lib.ListN.{length, length-set}
-use Rattle.tag_list_ordered.proofs.Clearing.{Clearing, clearing-start, clearing-on, clearing-end}
+use lib.ListN.{length}
+use Rattle.tag_list_ordered.proofs.Clearing.{Clearing}
 use Rattle.tag_list_ordered.proofs.clear.Given as goal
 
 abbrev pub invariant-loop-k : goal.invariant-loop-k

@@ -1,11 +1,6 @@
-use Prim.Native.Nat.{◌-◌}
 use native.Mathlib.Omega.{arith}
-use borrow.Author.Rules.{rules}
-use lib.ListN.{length}
-use Rattle.tag.specs.declared.Tag.TheVariants.{Read}
-use Rattle.tag.specs.Tags.{TagFound}
 use Rattle.tag_content.proofs.TagsRead.{told-tag, found-named}
-use Rattle.tag_list_ordered.proofs.Collecting.{Collecting, collecting-start, collecting-twice, collecting-full, collecting-slot, collecting-on, collecting-end}
+use Rattle.tag_list_ordered.proofs.Collecting.{collecting-start, collecting-twice, collecting-full, collecting-slot, collecting-on, collecting-end}
 use Rattle.tag_list_ordered.proofs.collect.Goals as goal
 
 pub loop-start-init : goal.loop-start-init

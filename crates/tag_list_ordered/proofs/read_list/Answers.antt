@@ -1,6 +1,5 @@
 -- `tag_list_ordered::read_list` meets its contract: the tests of what was collected.
 use Rattle.tag_content.proofs.TagLists.{list-long, list-fits, in-use-long, collected-fits, collected-told, collected-unsound, collected-full}
-use borrow.Author.Rules.{rules}
 use Rattle.tag_list_ordered.proofs.read_list.Goals as goal
 
 pub returns-then-too_long : goal.returns-then-too_long

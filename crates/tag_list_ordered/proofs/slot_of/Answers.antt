@@ -1,6 +1,5 @@
 -- `tag_list_ordered::slot_of` meets its contract: i is taken, and any other name has the slot that was found.
 use Rattle.tag_list_ordered.proofs.Slots.{second-i, not-i}
-use borrow.Author.Rules.{rules}
 use Rattle.tag_list_ordered.proofs.slot_of.Goals as goal
 
 pub returns-then-is_named : goal.returns-then-is_named

@@ -1,8 +1,5 @@
-use Prim.Native.Nat.{◌-◌}
 use native.Mathlib.Omega.{arith}
-use lib.ListN.{length}
-use borrow.Author.Rules.{rules}
-use Rattle.tag_names.proofs.Buckets.{Mixing, mixing-start, mixing-on, mixing-end}
+use Rattle.tag_names.proofs.Buckets.{mixing-start, mixing-on, mixing-end}
 use Rattle.tag_names.proofs.bucket.Goals as goal
 
 pub loop-j-init : goal.loop-j-init

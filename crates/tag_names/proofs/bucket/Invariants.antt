@@ -1,9 +1,7 @@
 -- `tag_names::bucket` meets its contract: from each byte on the same number is made as from the first.
 use Prim.Native.Nat.{◌-◌}
-use native.Mathlib.Omega.{arith}
 use lib.ListN.{length}
-use borrow.Author.Rules.{rules}
-use Rattle.tag_names.proofs.Buckets.{Mixing, mixing-start, mixing-on, mixing-end}
+use Rattle.tag_names.proofs.Buckets.{Mixing}
 use Rattle.tag_names.proofs.bucket.Given as goal
 
 abbrev pub invariant-loop-j : goal.invariant-loop-j

@@ -1,9 +1,4 @@
-use Prim.Native.Nat.{◌-◌}
-use native.Mathlib.Omega.{arith}
-use mathlib.Core.Path.{◌≡◌, refl}
-use lib.ListN.{length, drop}
-use borrow.Author.Rules.{rules}
-use Rattle.tag_names.specs.Names.{compared_at}
+use mathlib.Core.Path.{refl}
 use Rattle.tag_names.proofs.Fronts.{name-longer, name-same, body-ends, byte-less, byte_more, byte-behind, byte-equal}
 use Rattle.tag_names.proofs.compare.Goals as goal
 

@@ -1,6 +1,5 @@
 -- `tag_names::in_name` meets its contract: past the body there is no byte, and in it the name has an end behind its place or at it.
 use Rattle.tag_names.proofs.Fronts.{no_byte, front_long, this-byte}
-use borrow.Author.Rules.{rules}
 use Rattle.tag_names.proofs.in_name.Goals as goal
 
 pub returns-then-at-s : goal.returns-then-at-s

@@ -1,7 +1,6 @@
 -- `tag_names::is_named` meets its contract: names are the same where the comparison says so.
 use mathlib.Core.Path.{sym, ap, ◌∙◌}
 use Rattle.tag_names.specs.Names.{is_same}
-use borrow.Author.Rules.{rules}
 use Rattle.tag_names.proofs.is_named.Goals as goal
 
 pub returns-in-Before : goal.returns-in-Before

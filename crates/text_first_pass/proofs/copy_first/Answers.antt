@@ -4,7 +4,6 @@ use mathlib.Core.Path.{◌≡◌, sym}
 use mathlib.Core.List.{List}
 use lib.ListN.{length, take}
 use lib.Seq.{length-take-le}
-use borrow.Author.Rules.{rules}
 use Rattle.text_first_pass.proofs.Copying.{is-short, is-again, is-done, leaves-short, leaves-again, leaves-done}
 use Rattle.text_first_pass.proofs.copy_first.Goals as goal
 

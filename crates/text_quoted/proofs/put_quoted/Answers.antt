@@ -1,13 +1,10 @@
-use Prim.Native.Nat.{◌-◌, ◌≤◌, ◌<◌}
 use native.Mathlib.Omega.{arith}
-use lib.ListN.{length, drop}
 use borrow.Author.Rules.{rules}
 use Rattle.base_readers.proofs.Loops.{turn-fits, turn-less}
 use Rattle.lexis_rules.specs.declared.Class.TheVariants.{Quoted}
 use Rattle.lexis_rules.specs.Pieces.{item}
-use Rattle.lexis_rules.specs.Words.{quoted_text}
 use Rattle.lexis_laws.proofs.Pieces.{item-fits}
-use Rattle.text_quoted.proofs.Copied.{Copying, copy_start, copy_done, copy_more, copy-fits, copy_run, run-passed}
+use Rattle.text_quoted.proofs.Copied.{copy_start, copy_done, copy_more, copy-fits, copy_run, run-passed}
 use Rattle.text_quoted.proofs.put_quoted.Goals as goal
 
 pub loop-k-init : goal.loop-k-init

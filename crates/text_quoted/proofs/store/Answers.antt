@@ -2,7 +2,6 @@
 use native.Mathlib.Omega.{arith}
 use mathlib.Core.Path.{sym}
 use lib.Seq.{set_out}
-use borrow.Author.Rules.{rules}
 use Rattle.text_quoted.proofs.store.Goals as goal
 
 pub returns-else-n-out : goal.returns-else-n-out

@@ -1,5 +1,4 @@
 -- `text_write::put_byte` meets its contract: each way out has its law in `base_sequences/proofs/Clips.antt`.
-use borrow.Author.Rules.{rules}
 use Rattle.base_sequences.proofs.Clips.{put-none, put-past}
 use Rattle.text_write.proofs.put_byte.Goals as goal
 

@@ -1,10 +1,5 @@
-use Prim.Native.Nat.{◌+◌, ◌-◌, ◌≤◌}
 use native.Mathlib.Omega.{arith}
-use mathlib.Core.List.{map}
-use lib.ListN.{drop}
-use borrow.Author.Rules.{rules}
-use Rattle.base_sequences.proofs.Splices.{Left, left-zero}
-use Rattle.lexis_rules.specs.Bytes.{lower}
+use Rattle.base_sequences.proofs.Splices.{left-zero}
 use Rattle.text_write.proofs.Texts.{lower-more, lower-done}
 use Rattle.text_write.proofs.put_lower.Goals as goal
 

@@ -1,13 +1,10 @@
 -- `text_write::put_lower` meets its contract: at each turn what is left to store, stored from there on, gives what the whole text gives; the
 -- loop ends where the text or the room does.
 use Prim.Native.Nat.{◌+◌, ◌-◌, ◌≤◌}
-use native.Mathlib.Omega.{arith}
 use mathlib.Core.List.{map}
 use lib.ListN.{drop}
-use borrow.Author.Rules.{rules}
-use Rattle.base_sequences.proofs.Splices.{Left, left-zero}
+use Rattle.base_sequences.proofs.Splices.{Left}
 use Rattle.lexis_rules.specs.Bytes.{lower}
-use Rattle.text_write.proofs.Texts.{lower-more, lower-done}
 use Rattle.text_write.proofs.put_lower.Given as goal
 
 abbrev pub invariant-loop-j : goal.invariant-loop-j

@@ -1,8 +1,5 @@
-use Prim.Native.Nat.{◌+◌, ◌-◌, ◌≤◌}
 use native.Mathlib.Omega.{arith}
-use lib.ListN.{drop}
-use borrow.Author.Rules.{rules}
-use Rattle.base_sequences.proofs.Splices.{Left, left-zero}
+use Rattle.base_sequences.proofs.Splices.{left-zero}
 use Rattle.text_write.proofs.Texts.{stored_more, stored-done}
 use Rattle.text_write.proofs.put_text.Goals as goal
 

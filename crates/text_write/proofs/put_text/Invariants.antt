@@ -1,11 +1,8 @@
 -- `text_write::put_text` meets its contract: at each turn what is left to store, stored from there on, gives what the whole text gives; the
 -- loop ends where the text or the room does.
 use Prim.Native.Nat.{◌+◌, ◌-◌, ◌≤◌}
-use native.Mathlib.Omega.{arith}
 use lib.ListN.{drop}
-use borrow.Author.Rules.{rules}
-use Rattle.base_sequences.proofs.Splices.{Left, left-zero}
-use Rattle.text_write.proofs.Texts.{stored_more, stored-done}
+use Rattle.base_sequences.proofs.Splices.{Left}
 use Rattle.text_write.proofs.put_text.Given as goal
 
 abbrev pub invariant-loop-j : goal.invariant-loop-j

@@ -1,5 +1,4 @@
 -- `arc_fields::kinds::kind_of` meets its contract: the names are tried in turn.
-use borrow.Author.Rules.{rules}
 use Rattle.arc_fields.proofs.Instances.{kind-results, kind-signature, kind-seal, kind-other}
 use Rattle.arc_fields.proofs.kinds.kind_of.Goals as goal
 

@@ -1,6 +1,5 @@
 -- `identifier::version::version_at` meets its contract: each way through the code is a case of the definition.
 use Rattle.identifier.proofs.Versions.{version-no-space, version-no-digits, version-stated}
-use borrow.Author.Rules.{rules}
 use Rattle.identifier.proofs.version.version_at.Goals as goal
 
 pub returns-then-a-at : goal.returns-then-a-at

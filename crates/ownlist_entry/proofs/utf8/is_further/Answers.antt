@@ -2,7 +2,6 @@
 use mathlib.Core.Path.{ap, ◌∙◌}
 use Rattle.base_readers.specs.Texts.{within}
 use Rattle.ownlist_entry.proofs.ByteSequences.{further-none, further-some}
-use borrow.Author.Rules.{rules}
 use Rattle.ownlist_entry.proofs.utf8.is_further.Goals as goal
 
 pub returns-then-n-k : goal.returns-then-n-k

@@ -1,6 +1,5 @@
 -- `ownlist_entry::utf8::lead` meets its contract: each test is one of the definition.
 use Rattle.ownlist_entry.proofs.ByteSequences.{lead-two, lead-three, lead-four, lead-none}
-use borrow.Author.Rules.{rules}
 use Rattle.ownlist_entry.proofs.utf8.lead.Goals as goal
 
 pub returns-then-is_from : goal.returns-then-is_from

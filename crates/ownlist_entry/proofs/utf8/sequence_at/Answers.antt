@@ -3,7 +3,6 @@ use mathlib.Core.Path.{ap, ◌∙◌}
 use lib.ListN.{drop}
 use Rattle.ownlist_rules.specs.Utf8.{second}
 use Rattle.ownlist_entry.proofs.ByteSequences.{sequence-none, sequence-1, sequence-2, sequence-3, sequence-4}
-use borrow.Author.Rules.{rules}
 use Rattle.ownlist_entry.proofs.utf8.sequence_at.Goals as goal
 
 pub returns-then-n-eq0 : goal.returns-then-n-eq0

@@ -1,11 +1,5 @@
-use Prim.Native.Nat.{◌+◌, ◌-◌, ◌≤◌}
 use native.Mathlib.Omega.{arith}
-use mathlib.Core.Path.{◌≡◌}
-use mathlib.Core.Bool.{false}
-use borrow.Author.Rules.{rules}
-use Rattle.base_readers.specs.Places.{Reaches}
 use Rattle.base_readers.proofs.Loops.{piece-none, piece-all, hits-on}
-use Rattle.ownlist_rules.specs.OwnList.{visible}
 use Rattle.ownlist_entry.proofs.visible.has_other.Goals as goal
 
 pub loop-j-init : goal.loop-j-init

@@ -1,12 +1,7 @@
 -- `ownlist_entry::visible::visible_end` meets its contract: from each place of the loop the run ends where it ends from the first.
 use Prim.Native.Nat.{◌-◌}
-use native.Mathlib.Omega.{arith}
-use borrow.Author.Rules.{rules}
 use lib.ListN.{length}
 use Rattle.base_readers.specs.Places.{Reaches}
-use Rattle.base_readers.proofs.Loops.{reaches-start, reaches-found, text-on}
-use Rattle.lexis_rules.specs.declared.Class.TheVariants.{Visible}
-use Rattle.lexis_rules.specs.Bytes.{in_class}
 use Rattle.ownlist_rules.specs.OwnList.{visible}
 use Rattle.ownlist_entry.proofs.visible.visible_end.Given as goal
 

@@ -1,11 +1,5 @@
-use Prim.Native.Nat.{◌+◌, ◌-◌, ◌≤◌}
 use native.Mathlib.Omega.{arith}
-use mathlib.Core.Path.{◌≡◌}
-use mathlib.Core.Bool.{false}
-use borrow.Author.Rules.{rules}
-use Rattle.base_readers.specs.Places.{Reaches}
 use Rattle.base_readers.proofs.Loops.{piece-none, piece-all}
-use Rattle.base_readers.specs.Lines.{until_feed}
 use Rattle.ownlist_lines.proofs.Feeds.{feed-piece}
 use Rattle.ownlist_lines.proofs.ends.has_feed.Goals as goal
 

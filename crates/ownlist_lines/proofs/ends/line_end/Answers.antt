@@ -1,8 +1,3 @@
-use Prim.Native.Nat.{◌-◌}
-use native.Mathlib.Omega.{arith}
-use borrow.Author.Rules.{rules}
-use lib.ListN.{length}
-use Rattle.base_readers.specs.Places.{Reaches}
 use Rattle.base_readers.proofs.Loops.{reaches-start, reaches-found, text-on}
 use Rattle.base_readers.specs.Lines.{feedless, until_feed}
 use Rattle.ownlist_lines.proofs.ends.line_end.Goals as goal

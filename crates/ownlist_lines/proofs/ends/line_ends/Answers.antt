@@ -1,9 +1,6 @@
-use Prim.Native.Nat.{◌-◌, ◌≤◌}
 use native.Mathlib.Omega.{arith}
-use borrow.Author.Rules.{rules}
-use lib.ListN.{length}
 use Rattle.ownlist_laws.proofs.Ends.{line-inside}
-use Rattle.ownlist_lines.proofs.Feeds.{Finding, find-start, find-end, find-more}
+use Rattle.ownlist_lines.proofs.Feeds.{find-start, find-end, find-more}
 use Rattle.ownlist_lines.proofs.ends.line_ends.Goals as goal
 
 pub loop-at-init : goal.loop-at-init

@@ -1,10 +1,4 @@
-use Prim.Native.Nat.{◌-◌}
-use native.Mathlib.Omega.{arith}
-use borrow.Author.Rules.{rules}
-use lib.ListN.{length}
-use Rattle.base_readers.specs.Places.{Reaches}
 use Rattle.base_readers.proofs.Loops.{reaches-start, run_out}
-use Rattle.base_readers.specs.Lines.{until_feed}
 use Rattle.ownlist_lines.proofs.Feeds.{feed-on, feed-off}
 use Rattle.ownlist_lines.proofs.ends.near_feed.Goals as goal
 

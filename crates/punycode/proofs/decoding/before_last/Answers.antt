@@ -1,8 +1,4 @@
-use Prim.Native.Nat.{◌-◌}
-use native.Mathlib.Omega.{arith}
-use borrow.Author.Rules.{rules}
-use lib.ListN.{length}
-use Rattle.punycode.proofs.Copying.{Sought, sought-start, sought-end, sought-hit, sought-on}
+use Rattle.punycode.proofs.Copying.{sought-start, sought-end, sought-hit, sought-on}
 use Rattle.punycode.proofs.decoding.before_last.Goals as goal
 
 pub loop-p-init : goal.loop-p-init

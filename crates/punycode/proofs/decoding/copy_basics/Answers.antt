@@ -1,7 +1,4 @@
-use Prim.Native.Nat.{◌-◌}
-use native.Mathlib.Omega.{arith}
-use borrow.Author.Rules.{rules}
-use Rattle.punycode.proofs.Copying.{Copying, copying-start, copying-end, copying-not, copying-on}
+use Rattle.punycode.proofs.Copying.{copying-start, copying-end, copying-not, copying-on}
 use Rattle.punycode.proofs.decoding.copy_basics.Goals as goal
 
 pub loop-j-init : goal.loop-j-init

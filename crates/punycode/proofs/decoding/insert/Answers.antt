@@ -1,8 +1,7 @@
 use lib.ListN.{length-set}
 use mathlib.Core.Path.{◌∙◌}
-use Prim.Native.Nat.{◌≤◌}
 use native.Mathlib.Omega.{arith}
-use Rattle.punycode.proofs.Inserting.{Moved, moved-start, moved_on, moved-end}
+use Rattle.punycode.proofs.Inserting.{moved-start, moved_on, moved-end}
 use Rattle.punycode.proofs.decoding.insert.Goals as goal
 
 pub loop-j-init : goal.loop-j-init

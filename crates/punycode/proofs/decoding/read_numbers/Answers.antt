@@ -1,13 +1,8 @@
-use borrow.Author.Tests.{not-true, not-false}
-use Prim.Native.Nat.{◌-◌, ◌+◌, ◌*◌, ◌<◌}
-use Rattle.punycode_rules.specs.Punycode.{digit_of, threshold}
-use Rattle.punycode.specs.Internal.{limit}
-use lib.ListN.{length, take, get_or}
+use Rattle.punycode_rules.specs.Punycode.{digit_of}
 use Rattle.punycode_laws.proofs.Digits.{scalar_below}
 use native.Mathlib.Omega.{arith}
-use borrow.Author.Rules.{rules}
-use mathlib.Core.Path.{◌≡◌, sym, ap, ◌∙◌}
-use Rattle.punycode.proofs.Reading.{Reading, reading-start, reads-text, reads-cut, reads_none, reads-large, reads_more, reads-long, reads-bad, reads-place, reads-positive, reads-last}
+use mathlib.Core.Path.{sym, ap, ◌∙◌}
+use Rattle.punycode.proofs.Reading.{reading-start, reads-text, reads-cut, reads_none, reads-large, reads_more, reads-long, reads-bad, reads-place, reads-positive, reads-last}
 use Rattle.punycode.proofs.decoding.read_numbers.Goals as goal
 
 pub loop-p-init : goal.loop-p-init

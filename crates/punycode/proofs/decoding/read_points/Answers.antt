@@ -2,7 +2,6 @@
 use native.Mathlib.Omega.{arith}
 use Rattle.punycode_laws.proofs.Basics.{before-inside, consumed-none, consumed-some}
 use Rattle.punycode.proofs.Copying.{basics-long, basics-opened, basics-then, basics-not}
-use borrow.Author.Rules.{rules}
 use Rattle.punycode.proofs.decoding.read_points.Goals as goal
 
 pub returns-then-b-out : goal.returns-then-b-out

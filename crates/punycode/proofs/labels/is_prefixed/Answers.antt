@@ -1,6 +1,5 @@
 -- `punycode::labels::is_prefixed` meets its contract: one test after the other.
 use Rattle.punycode.proofs.Labelling.{prefix-1, prefix-2, prefix-3, prefix-4}
-use borrow.Author.Rules.{rules}
 use Rattle.punycode.proofs.labels.is_prefixed.Goals as goal
 
 pub returns-then-is_at : goal.returns-then-is_at

@@ -1,11 +1,4 @@
-use Prim.Native.Nat.{◌-◌}
-use native.Mathlib.Omega.{arith}
-use borrow.Author.Rules.{rules}
-use lib.ListN.{length}
-use Rattle.base_readers.specs.Places.{Reaches}
-use Rattle.base_readers.specs.Readers.{run}
 use Rattle.base_readers.proofs.Loops.{reaches-start, run_out}
-use Rattle.punycode_rules.specs.Labels.{in_label}
 use Rattle.punycode_laws.proofs.Spelling.{label-stop, label-go}
 use Rattle.punycode.proofs.labels.label_end.Goals as goal
 

@@ -1,12 +1,9 @@
 -- `punycode::labels::put_label` meets its contract: each answer of the decoder is a case of the definition.
 use lib.ListN.{drop}
-use Rattle.punycode.specs.declared.decoding.Points.TheVariants.{Read}
-use Rattle.punycode.specs.Internal.{Tells}
 use native.Mathlib.Omega.{arith}
 use mathlib.Core.Path.{sym, ◌∙◌}
 use Rattle.punycode.proofs.Labelling.{told, told-points, label-plain, label-failed, label-text, label-long}
 use Rattle.punycode_laws.proofs.Spelling.{prefixed-long}
-use borrow.Author.Rules.{rules}
 use Rattle.punycode.proofs.labels.put_label.Goals as goal
 
 pub slice_bounds-read_points-count : goal.slice_bounds-read_points-count

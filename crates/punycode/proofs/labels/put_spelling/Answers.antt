@@ -1,9 +1,6 @@
-use Prim.Native.Nat.{◌-◌}
 use native.Mathlib.Omega.{arith}
-use borrow.Author.Rules.{rules}
-use lib.ListN.{length}
 use Rattle.punycode_laws.proofs.Spelling.{end_low}
-use Rattle.punycode.proofs.Labelling.{Written, written_start, written_over, written-end, written_on}
+use Rattle.punycode.proofs.Labelling.{written_start, written_over, written-end, written_on}
 use Rattle.punycode.proofs.labels.put_spelling.Goals as goal
 
 pub loop-n-init : goal.loop-n-init

@@ -3,7 +3,6 @@ use native.Mathlib.Omega.{arith}
 use Prim.Native.Nat.{◌/◌}
 use native.Mathlib.Nat.{div-le_self}
 use Rattle.punycode_laws.proofs.Adapting.{adapt-first, adapt-later}
-use borrow.Author.Rules.{rules}
 use Rattle.punycode.proofs.numbers.adapt.Goals as goal
 
 pub overflow_add-d : goal.overflow_add-d

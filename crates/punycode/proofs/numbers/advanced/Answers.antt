@@ -1,7 +1,6 @@
 -- `punycode::numbers::advanced` meets its contract: the variables are small, so that nothing overflows.
 use native.Mathlib.Omega.{arith}
 use Rattle.punycode.proofs.Bounds.{digit-large}
-use borrow.Author.Rules.{rules}
 use Rattle.punycode.proofs.numbers.advanced.Goals as goal
 
 pub overflow_mul-result : goal.overflow_mul-result

@@ -1,7 +1,6 @@
 -- `punycode::numbers::digit_of` meets its contract: each test in turn is a case of the definition.
 use native.Mathlib.Omega.{arith}
 use Rattle.punycode_laws.proofs.Digits.{small-letter, small-from, capital, capital-from, figure, figure-from, no_digit}
-use borrow.Author.Rules.{rules}
 use Rattle.punycode.proofs.numbers.digit_of.Goals as goal
 
 pub overflow_sub-result : goal.overflow_sub-result

@@ -2,7 +2,6 @@
 use native.Mathlib.Omega.{arith}
 use Prim.Native.Nat.{◌+◌, ◌*◌}
 use native.Mathlib.Nat.{div-le_self, mod-le}
-use borrow.Author.Rules.{rules}
 use Rattle.punycode.proofs.numbers.last.Goals as goal
 
 pub overflow_add-j : goal.overflow_add-j

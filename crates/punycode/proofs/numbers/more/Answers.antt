@@ -2,7 +2,6 @@
 use native.Mathlib.Omega.{arith}
 use Rattle.punycode_laws.proofs.Digits.{threshold-bounds}
 use Rattle.punycode.proofs.Bounds.{digit-large, weight-large}
-use borrow.Author.Rules.{rules}
 use Rattle.punycode.proofs.numbers.more.Goals as goal
 
 pub overflow_mul-result : goal.overflow_mul-result

@@ -1,5 +1,5 @@
 use native.Mathlib.Omega.{arith}
-use Rattle.punycode_laws.proofs.Adapting.{Turns, turns-start, turns-on, turns-end, share}
+use Rattle.punycode_laws.proofs.Adapting.{turns-start, turns-on, turns-end, share}
 use Rattle.punycode.proofs.numbers.scaled.Goals as goal
 
 pub loop-d-init : goal.loop-d-init

@@ -1,6 +1,5 @@
 -- `punycode::numbers::scaled` meets its contract: at each turn the bias of what is left is that of the whole.
-use native.Mathlib.Omega.{arith}
-use Rattle.punycode_laws.proofs.Adapting.{Turns, turns-start, turns-on, turns-end, share}
+use Rattle.punycode_laws.proofs.Adapting.{Turns}
 use Rattle.punycode.proofs.numbers.scaled.Given as goal
 
 abbrev pub invariant-loop-d : goal.invariant-loop-d

@@ -1,6 +1,5 @@
 -- `punycode::utf8::put_point` meets its contract: one to four bytes, by the cases of the definition.
 use Rattle.punycode.proofs.Writing.{point-one, point-two, point-three, point-four}
-use borrow.Author.Rules.{rules}
 use Rattle.punycode.proofs.utf8.put_point.Goals as goal
 
 pub returns-then-x-lt128 : goal.returns-then-x-lt128

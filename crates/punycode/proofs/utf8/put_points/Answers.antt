@@ -1,8 +1,7 @@
-use Prim.Native.Nat.{◌-◌}
 use native.Mathlib.Omega.{arith}
 use lib.ListN.{get_or}
 use Rattle.punycode_laws.proofs.Encoding.{utf8-bounds}
-use Rattle.punycode.proofs.Writing.{Pointed, pointed-start, pointed-small, pointed-on, pointed-end}
+use Rattle.punycode.proofs.Writing.{pointed-start, pointed-small, pointed-on, pointed-end}
 use Rattle.punycode.proofs.utf8.put_points.Goals as goal
 
 pub loop-j-init : goal.loop-j-init

@@ -1,9 +1,6 @@
 -- `punycode::utf8::put_points` meets its contract: at each turn what is left to write gives what the whole gives.
 use Prim.Native.Nat.{◌-◌}
-use native.Mathlib.Omega.{arith}
-use lib.ListN.{get_or}
-use Rattle.punycode_laws.proofs.Encoding.{utf8-bounds}
-use Rattle.punycode.proofs.Writing.{Pointed, pointed-start, pointed-small, pointed-on, pointed-end}
+use Rattle.punycode.proofs.Writing.{Pointed}
 use Rattle.punycode.proofs.utf8.put_points.Given as goal
 
 abbrev pub invariant-loop-j : goal.invariant-loop-j

@@ -1,5 +1,4 @@
 -- `report_escape::byte::hex_digit` meets its contract: the test of the code is the one of the definition.
-use borrow.Author.Rules.{rules}
 use Rattle.report_escape.proofs.Escape.{digit_low, digit-high}
 use Rattle.report_escape.proofs.byte.hex_digit.Goals as goal
 

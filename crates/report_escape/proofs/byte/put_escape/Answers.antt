@@ -1,7 +1,6 @@
 -- `report_escape::byte::put_escape` meets its contract: a byte that stands for itself is stored, else the percent sign and two digits one after
 -- the other.
 use native.Mathlib.Omega.{arith}
-use borrow.Author.Rules.{rules}
 use Rattle.report_escape.proofs.Escape.{plain-put, other-put}
 use Rattle.report_escape.proofs.byte.put_escape.Goals as goal
 

@@ -1,5 +1,4 @@
 -- `result_values::domains::closed_at` meets its contract: each test is one of the definition.
-use borrow.Author.Rules.{rules}
 use Rattle.result_values.proofs.DomainLabels.{closed-there, closed-other, closed-one}
 use Rattle.result_values.proofs.domains.closed_at.Goals as goal
 

@@ -1,8 +1,4 @@
-use Prim.Native.Nat.{◌-◌}
-use native.Mathlib.Omega.{arith}
-use lib.ListN.{length}
-use borrow.Author.Rules.{rules}
-use Rattle.result_values.proofs.DomainLabels.{Labels, labels-start, labels-on, labels-off, labels-out}
+use Rattle.result_values.proofs.DomainLabels.{labels-start, labels-on, labels-off, labels-out}
 use Rattle.result_values.proofs.domains.domain_end.Goals as goal
 
 pub loop-i-init : goal.loop-i-init

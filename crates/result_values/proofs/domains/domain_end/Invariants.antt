@@ -1,9 +1,7 @@
 -- `result_values::domains::domain_end` meets its contract: from each place of the loop on there are labels just where the whole run is a domain.
 use Prim.Native.Nat.{◌-◌}
-use native.Mathlib.Omega.{arith}
 use lib.ListN.{length}
-use borrow.Author.Rules.{rules}
-use Rattle.result_values.proofs.DomainLabels.{Labels, labels-start, labels-on, labels-off, labels-out}
+use Rattle.result_values.proofs.DomainLabels.{Labels}
 use Rattle.result_values.proofs.domains.domain_end.Given as goal
 
 abbrev pub invariant-loop-i : goal.invariant-loop-i

@@ -1,6 +1,5 @@
 -- `result_values::domains::goes_on` meets its contract: each test is one of the definition.
 use Rattle.result_values.proofs.DomainLabels.{goes-alphanumeric, goes-dot, goes-hyphen, goes-not}
-use borrow.Author.Rules.{rules}
 use Rattle.result_values.proofs.domains.goes_on.Goals as goal
 
 pub returns-then-is_alphanumeric : goal.returns-then-is_alphanumeric

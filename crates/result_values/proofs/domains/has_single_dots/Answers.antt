@@ -1,8 +1,5 @@
-use Prim.Native.Nat.{◌-◌}
 use native.Mathlib.Omega.{arith}
-use lib.ListN.{length}
-use borrow.Author.Rules.{rules}
-use Rattle.result_values.proofs.DomainLabels.{Dots, dots-start, dots-on, dots-off, dots-out}
+use Rattle.result_values.proofs.DomainLabels.{dots-start, dots-on, dots-off, dots-out}
 use Rattle.result_values.proofs.domains.has_single_dots.Goals as goal
 
 pub loop-i-init : goal.loop-i-init

@@ -1,5 +1,4 @@
 -- `tag_content::chain::chain_value` meets its contract: the words are tried in turn.
-use borrow.Author.Rules.{rules}
 use Rattle.tag_content.proofs.ChainValues.{chain-none, chain-pass, chain-fail, chain-other}
 use Rattle.tag_content.proofs.chain.chain_value.Goals as goal
 

@@ -1,5 +1,4 @@
 -- `tag_content::chain::chain_value_of` meets its contract: the value without the space around it.
-use borrow.Author.Rules.{rules}
 use Rattle.tag_content.proofs.ChainValues.{white-inside, solid-inside, solid-machine, trimmed-is}
 use Rattle.tag_content.proofs.chain.chain_value_of.Goals as goal
 

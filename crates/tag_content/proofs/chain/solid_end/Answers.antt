@@ -1,6 +1,4 @@
-use native.Mathlib.Omega.{arith}
-use borrow.Author.Rules.{rules}
-use Rattle.tag_content.proofs.ChainValues.{Solid, solid-start, solid-last, solid-on, solid-off, solid-out}
+use Rattle.tag_content.proofs.ChainValues.{solid-start, solid-last, solid-on, solid-off, solid-out}
 use Rattle.tag_content.proofs.chain.solid_end.Goals as goal
 
 pub loop-e-init : goal.loop-e-init

@@ -1,7 +1,5 @@
 -- `tag_content::chain::solid_end` meets its contract: what is behind the place of the loop is space.
-use native.Mathlib.Omega.{arith}
-use borrow.Author.Rules.{rules}
-use Rattle.tag_content.proofs.ChainValues.{Solid, solid-start, solid-last, solid-on, solid-off, solid-out}
+use Rattle.tag_content.proofs.ChainValues.{Solid}
 use Rattle.tag_content.proofs.chain.solid_end.Given as goal
 
 abbrev pub invariant-loop-e : goal.invariant-loop-e

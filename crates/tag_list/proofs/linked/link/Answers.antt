@@ -1,7 +1,6 @@
 -- `tag_list::linked::link` meets its contract: each of the three stores is one of the definition.
 use mathlib.Core.Path.{refl, ap}
 use lib.ListN.{set}
-use borrow.Author.Rules.{rules}
 use Rattle.tag_list.proofs.Linking.{entry_next}
 use Rattle.tag_list.proofs.linked.link.Goals as goal
 

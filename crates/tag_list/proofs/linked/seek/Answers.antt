@@ -1,6 +1,4 @@
-use native.Mathlib.Omega.{arith}
-use borrow.Author.Rules.{rules}
-use Rattle.tag_list.proofs.Linking.{Seeking, seeking-start, seeking-inside, seeking-linked, seeking-end, seeking-found, seeking-on, seeking-less}
+use Rattle.tag_list.proofs.Linking.{seeking-start, seeking-inside, seeking-linked, seeking-end, seeking-found, seeking-on, seeking-less}
 use Rattle.tag_list.proofs.linked.seek.Goals as goal
 
 pub loop-c-init : goal.loop-c-init

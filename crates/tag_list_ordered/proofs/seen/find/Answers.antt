@@ -1,7 +1,4 @@
-use Prim.Native.Nat.{◌-◌}
-use native.Mathlib.Omega.{arith}
-use borrow.Author.Rules.{rules}
-use Rattle.tag_list_ordered.proofs.Halving.{Halved, search-start, search-free, turn_up, turn-down, turn-same}
+use Rattle.tag_list_ordered.proofs.Halving.{search-start, search-free, turn_up, turn-down, turn-same}
 use Rattle.tag_list_ordered.proofs.seen.find.Goals as goal
 
 pub loop-lo-init : goal.loop-lo-init

@@ -1,7 +1,6 @@
-use native.Mathlib.Omega.{arith}
 use mathlib.Core.Path.{◌∙◌}
 use lib.ListN.{length-set}
-use Rattle.tag_list_ordered.proofs.Halving.{Shifting, shifting-start, shifting-on, shifting-end}
+use Rattle.tag_list_ordered.proofs.Halving.{shifting-start, shifting-on, shifting-end}
 use Rattle.tag_list_ordered.proofs.seen.insert.Goals as goal
 
 pub loop-j-init : goal.loop-j-init

@@ -1,9 +1,4 @@
-use Prim.Native.Nat.{◌-◌}
-use native.Mathlib.Omega.{arith}
-use mathlib.Core.Path.{◌≡◌, refl}
-use lib.ListN.{length, drop}
-use borrow.Author.Rules.{rules}
-use Rattle.tag_names.specs.Names.{held_at}
+use mathlib.Core.Path.{refl}
 use Rattle.tag_names.proofs.Needed.{held-here, held-further, held-nowhere}
 use Rattle.tag_names.proofs.required.has.Goals as goal
 

@@ -1,6 +1,5 @@
 -- `tag_names::required::has_seal_tags` meets its contract: the names are looked for in turn.
 use Rattle.tag_names.proofs.Needed.{needed-not, needed-on, needed-last}
-use borrow.Author.Rules.{rules}
 use Rattle.tag_names.proofs.required.has_seal_tags.Goals as goal
 
 pub returns-then-not-has : goal.returns-then-not-has

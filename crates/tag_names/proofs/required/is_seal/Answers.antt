@@ -1,6 +1,5 @@
 -- `tag_names::required::is_seal` meets its contract: each test is one of the definition.
 use Rattle.tag_names.proofs.Needed.{seal-no-value, seal-header, seal-rest}
-use borrow.Author.Rules.{rules}
 use Rattle.tag_names.proofs.required.is_seal.Goals as goal
 
 pub returns-then-cv-eq0 : goal.returns-then-cv-eq0

@@ -1,11 +1,4 @@
-use Prim.Native.Nat.{◌-◌}
-use native.Mathlib.Omega.{arith}
-use borrow.Author.Rules.{rules}
-use lib.ListN.{length}
-use Rattle.base_readers.specs.Readers.{run}
-use Rattle.base_readers.specs.Places.{Reaches}
 use Rattle.base_readers.proofs.Loops.{reaches-start, run_out}
-use Rattle.text_write.specs.Phrases.{in_phrase}
 use Rattle.text_write.proofs.Bars.{bar-here, bar-on}
 use Rattle.text_write.proofs.phrases.bar_from.Goals as goal
 

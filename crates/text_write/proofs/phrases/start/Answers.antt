@@ -1,6 +1,4 @@
-use native.Mathlib.Omega.{arith}
-use borrow.Author.Rules.{rules}
-use Rattle.text_write.proofs.Bars.{Passed, passed_none, passed-all, passed-last, passed-more}
+use Rattle.text_write.proofs.Bars.{passed_none, passed-all, passed-last, passed-more}
 use Rattle.text_write.proofs.phrases.start.Goals as goal
 
 pub loop-left-init : goal.loop-left-init

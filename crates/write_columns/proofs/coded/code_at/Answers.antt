@@ -1,6 +1,5 @@
 -- `write_columns::coded::code_at` meets its contract: each way out has its law in `Codes`.
 use Rattle.write_columns.proofs.Codes.{code-itself, code-neither, code-no-first, code-no-second, code-needless, code-percent}
-use borrow.Author.Rules.{rules}
 use Rattle.write_columns.proofs.coded.code_at.Goals as goal
 
 pub returns-then-is_plain : goal.returns-then-is_plain

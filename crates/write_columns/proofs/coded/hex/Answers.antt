@@ -1,6 +1,5 @@
 -- `write_columns::coded::hex` meets its contract: each way out has its law in write_laws/proofs/HexDigits.antt.
 use Rattle.write_laws.proofs.HexDigits.{hex-below, hex-digit, hex-between, hex-letter, hex-above}
-use borrow.Author.Rules.{rules}
 use Rattle.write_columns.proofs.coded.hex.Goals as goal
 
 pub returns-then-b-lt48 : goal.returns-then-b-lt48

@@ -1,6 +1,5 @@
 -- `write_columns::coded::in_test` meets its contract: each way out has its law in `Tests`.
 use Rattle.write_columns.proofs.Tests.{in-text-yes, in-text-no, in-token, in-identifier, in-local}
-use borrow.Author.Rules.{rules}
 use Rattle.write_columns.proofs.coded.in_test.Goals as goal
 
 pub returns-then-in_class : goal.returns-then-in_class

@@ -1,8 +1,5 @@
-use Rattle.write_columns.proofs.Tests.{Testing, testing-start, testing-done, testing-on, testing-off}
+use Rattle.write_columns.proofs.Tests.{testing-start, testing-done, testing-on, testing-off}
 use Rattle.write_columns.proofs.Codes.{text-turn, text-less}
-use borrow.Author.Rules.{rules}
-use lib.ListN.{length}
-use Prim.Native.Nat.{◌-◌}
 use Rattle.write_columns.proofs.coded.is_each.Goals as goal
 
 pub loop-t-init : goal.loop-t-init

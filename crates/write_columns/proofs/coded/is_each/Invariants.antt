@@ -1,7 +1,5 @@
 -- `write_columns::coded::is_each` meets its contract: the loop keeps `Testing`, and each way out has its law.
-use Rattle.write_columns.proofs.Tests.{Testing, testing-start, testing-done, testing-on, testing-off}
-use Rattle.write_columns.proofs.Codes.{text-turn, text-less}
-use borrow.Author.Rules.{rules}
+use Rattle.write_columns.proofs.Tests.{Testing}
 use lib.ListN.{length}
 use Prim.Native.Nat.{◌-◌}
 use Rattle.write_columns.proofs.coded.is_each.Given as goal

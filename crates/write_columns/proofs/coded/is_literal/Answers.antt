@@ -1,7 +1,4 @@
-use Rattle.write_columns.proofs.Literals.{Spelling, spelling-start, spelling-done, spelling-off, spelling-on, spelling-less}
-use borrow.Author.Rules.{rules}
-use lib.ListN.{length}
-use Prim.Native.Nat.{◌-◌}
+use Rattle.write_columns.proofs.Literals.{spelling-start, spelling-done, spelling-off, spelling-on, spelling-less}
 use Rattle.write_columns.proofs.coded.is_literal.Goals as goal
 
 pub loop-j-init : goal.loop-j-init

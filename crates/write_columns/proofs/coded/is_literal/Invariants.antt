@@ -1,6 +1,5 @@
 -- `write_columns::coded::is_literal` meets its contract: the loop keeps `Spelling`, and each way out has its law.
-use Rattle.write_columns.proofs.Literals.{Spelling, spelling-start, spelling-done, spelling-off, spelling-on, spelling-less}
-use borrow.Author.Rules.{rules}
+use Rattle.write_columns.proofs.Literals.{Spelling}
 use lib.ListN.{length}
 use Prim.Native.Nat.{◌-◌}
 use Rattle.write_columns.proofs.coded.is_literal.Given as goal

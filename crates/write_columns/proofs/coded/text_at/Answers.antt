@@ -1,8 +1,5 @@
-use Rattle.write_columns.proofs.Tests.{Walking, walking_start, walking-done, walking_on}
+use Rattle.write_columns.proofs.Tests.{walking_start, walking-done, walking_on}
 use Rattle.write_columns.proofs.Codes.{text-turn, text-less}
-use lib.ListN.{length}
-use Prim.Native.Nat.{◌-◌}
-use borrow.Author.Rules.{rules}
 use Rattle.write_columns.proofs.coded.text_at.Goals as goal
 
 pub loop-t-init : goal.loop-t-init

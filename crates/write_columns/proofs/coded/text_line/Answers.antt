@@ -1,6 +1,5 @@
 -- `write_columns::coded::text_line` meets its contract: each way out has its law in `Tails`.
 use Rattle.write_columns.proofs.Tails.{line-unfed, line-fits, line-untexted, line-found}
-use borrow.Author.Rules.{rules}
 use Rattle.write_columns.proofs.coded.text_line.Goals as goal
 
 pub overflow_add-result : goal.overflow_add-result

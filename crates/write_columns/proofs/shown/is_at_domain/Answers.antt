@@ -1,6 +1,5 @@
 -- `write_columns::shown::is_at_domain` meets its contract: each way out has its law in `Shapes`.
 use Rattle.write_columns.proofs.Shapes.{at-domain-not, at-domain-there, at-domain-is}
-use borrow.Author.Rules.{rules}
 use Rattle.write_columns.proofs.shown.is_at_domain.Goals as goal
 
 pub slice_bounds-is_domain-count : goal.slice_bounds-is_domain-count

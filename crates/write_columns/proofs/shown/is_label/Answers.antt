@@ -1,6 +1,5 @@
 -- `write_columns::shown::is_label` meets its contract: each way out has its law in `Shapes`.
 use Rattle.write_columns.proofs.Shapes.{label-capital, label-unlisted, label_is}
-use borrow.Author.Rules.{rules}
 use Rattle.write_columns.proofs.shown.is_label.Goals as goal
 
 pub returns-then-is_ptype : goal.returns-then-is_ptype

@@ -1,6 +1,5 @@
 -- `write_columns::shown::is_mailbox` meets its contract: each way out has its law in `Shapes`.
 use Rattle.write_columns.proofs.Shapes.{take_long, mailbox-unsigned, mailbox-untexted, mailbox-is}
-use borrow.Author.Rules.{rules}
 use Rattle.write_columns.proofs.shown.is_mailbox.Goals as goal
 
 pub slice_bounds-is_each-end : goal.slice_bounds-is_each-end

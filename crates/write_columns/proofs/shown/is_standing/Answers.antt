@@ -1,6 +1,5 @@
 -- `write_columns::shown::is_standing` meets its contract: each way out has its law in `Shapes`.
 use Rattle.write_columns.proofs.Shapes.{kind-token, kind-quoted, kind-mailbox, kind-at-domain}
-use borrow.Author.Rules.{rules}
 use Rattle.write_columns.proofs.shown.is_standing.Goals as goal
 
 pub returns-then-k-eq116 : goal.returns-then-k-eq116

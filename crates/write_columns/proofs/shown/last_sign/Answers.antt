@@ -1,5 +1,4 @@
-use Rattle.write_columns.proofs.Shapes.{Signing, signing-start, signing-none, signing-there, signing-found, signing-more, signing-less}
-use borrow.Author.Rules.{rules}
+use Rattle.write_columns.proofs.Shapes.{signing-start, signing-none, signing-there, signing-found, signing-more, signing-less}
 use Rattle.write_columns.proofs.shown.last_sign.Goals as goal
 
 pub loop-j-init : goal.loop-j-init

@@ -1,6 +1,5 @@
 -- `write_columns::shown::shown_end` meets its contract: each way out has its law in `Allowed`.
 use Rattle.write_columns.proofs.Allowed.{valued_not, valued-coded, valued_fits, valued_one, valued-before, valued-inside, valued-unallowed, valued-allowed}
-use borrow.Author.Rules.{rules}
 use Rattle.write_columns.proofs.shown.shown_end.Goals as goal
 
 pub returns-then-g-at : goal.returns-then-g-at

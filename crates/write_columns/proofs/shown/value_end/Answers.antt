@@ -1,6 +1,5 @@
 -- `write_columns::shown::value_end` meets its contract: each way out has its law in `Showing`.
 use Rattle.write_columns.proofs.Showing.{shown-unkind, shown-untabbed, shown-fits, shown-unfed, shown-last, shown-found}
-use borrow.Author.Rules.{rules}
 use Rattle.write_columns.proofs.shown.value_end.Goals as goal
 
 pub overflow_add-at : goal.overflow_add-at

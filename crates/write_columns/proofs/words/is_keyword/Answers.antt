@@ -1,6 +1,5 @@
 -- `write_columns::words::is_keyword` meets its contract: each way out has its law in `Keywords`.
 use Rattle.write_columns.proofs.Keywords.{keyword-empty, keyword-part, keyword-whole}
-use borrow.Author.Rules.{rules}
 use Rattle.write_columns.proofs.words.is_keyword.Goals as goal
 
 pub returns-then-p-eq0 : goal.returns-then-p-eq0

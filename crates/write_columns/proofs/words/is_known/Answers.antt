@@ -1,6 +1,5 @@
 -- `write_columns::words::is_known` meets its contract: each way out has its law in `Keywords`.
 use Rattle.write_columns.proofs.Keywords.{known-capital, known-capital-result, known-tabled}
-use borrow.Author.Rules.{rules}
 use Rattle.write_columns.proofs.words.is_known.Goals as goal
 
 pub returns-then-is_lower-2 : goal.returns-then-is_lower-2

@@ -1,7 +1,4 @@
-use Rattle.write_columns.proofs.Keywords.{Lowering, lowering-start, lowering-done, lowering-off, lowering-on, lowering-less}
-use borrow.Author.Rules.{rules}
-use lib.ListN.{length}
-use Prim.Native.Nat.{◌-◌}
+use Rattle.write_columns.proofs.Keywords.{lowering-start, lowering-done, lowering-off, lowering-on, lowering-less}
 use Rattle.write_columns.proofs.words.is_lower.Goals as goal
 
 pub loop-j-init : goal.loop-j-init

@@ -1,6 +1,5 @@
 -- `write_columns::words::is_lower` meets its contract: the loop keeps `Lowering`, and each way out has its law.
-use Rattle.write_columns.proofs.Keywords.{Lowering, lowering-start, lowering-done, lowering-off, lowering-on, lowering-less}
-use borrow.Author.Rules.{rules}
+use Rattle.write_columns.proofs.Keywords.{Lowering}
 use lib.ListN.{length}
 use Prim.Native.Nat.{◌-◌}
 use Rattle.write_columns.proofs.words.is_lower.Given as goal
