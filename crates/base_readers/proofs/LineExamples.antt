@@ -1,6 +1,6 @@
 -- Lines at worked examples, computed.
 use mathlib.Core.Path.{◌≡◌, refl}
-use mathlib.Core.List.{List, [], ◌∷◌, map}
+use mathlib.Core.List.{[], ◌∷◌, map}
 use Rattle.base_readers.specs.Texts.{bytes}
 use Rattle.base_readers.specs.Readers.{run}
 use Rattle.base_readers.specs.Lines.{lined, lines_of, feedless, until_feed}

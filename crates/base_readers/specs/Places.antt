@@ -1,5 +1,5 @@
 -- Readers and parsers at a place of a list, for code that walks it.
-use Rattle.std.specs.Prelude.{ℕ, ◌+◌, ◌≡◌, List, [], ◌∷◌, drop}
+use Rattle.std.specs.Prelude.{ℕ, ◌+◌, ◌≡◌, List, [], drop}
 use Rattle.base_readers.specs.Readers.{Reader}
 use Rattle.base_readers.specs.Parsers.{Got, nothing, got, Parser, after, several}
 

@@ -36,6 +36,9 @@ pub const JUDGEMENT: usize = 512;
 // A room for the last line (`ending-fits` in command_rules/proofs/EndingsFit.antt).
 pub const LINE: usize = 256;
 
+// The most bytes of an argument that are read: one more than a path may have.
+pub const WORD: usize = 4096;
+
 // For a block, what is kept of it, or a body.
 pub fn block() -> [u8; BLOCK]
     ensures value { result ≡ replicate 65537 0 }
@@ -82,6 +85,14 @@ pub fn judgement() -> [u8; JUDGEMENT]
     ensures value_2 { 512 ≡ length result }
 {
     [0u8; JUDGEMENT]
+}
+
+// For an argument.
+pub fn word() -> [u8; WORD]
+    ensures value { result ≡ replicate 4096 0 }
+    ensures value_2 { 4096 ≡ length result }
+{
+    [0u8; WORD]
 }
 
 // For the last line.

@@ -1,6 +1,5 @@
 -- What can be said of a transfer, though not what is read or written.
-use Rattle.std.specs.Prelude.{ℕ, zero, suc, min, ◌≡◌, Bool, true, false, List, eqb, ℤ, pos, negsuc, length}
-use Rattle.io.specs.Counts.{IsPrefixLen}
+use Rattle.std.specs.Prelude.{ℕ, zero, suc, ◌≤◌, min, ◌≡◌, ⊤, Bool, true, false, List, eqb, ℤ, pos, negsuc, length, take}
 use Rattle.command_files.specs.declared.Input.{Input}
 use Rattle.command_files.specs.declared.Turn.{Turn}
 use Rattle.command_files.specs.declared.Turn.TheVariants as turns
@@ -17,6 +16,17 @@ unfoldable pub turn_of : ℤ → ℤ → ℕ → Turn
 turn_of (pos zero) errno room = turns.Ended
 turn_of (pos (suc k)) errno room = turns.Moved (min (suc k) room)
 turn_of (negsuc k) errno room = elim (interrupted errno) [ true ↦ turns.Interrupted | false ↦ turns.Failed ]
+
+-- no more bytes are moved than there are
+abbrev pub IsWithin : Turn → ℕ → Type 0
+IsWithin (turns.Moved n) room = n ≤ room
+IsWithin turns.Ended room = ⊤
+IsWithin turns.Interrupted room = ⊤
+IsWithin turns.Failed room = ⊤
+
+-- n bytes stand in front of xs. The second part follows from the first; both are stated so that `&buf[..n]` needs no proof file.
+abbrev pub IsPrefixLen : ℕ → List ℕ → Type 0
+IsPrefixLen n xs = (n ≤ length xs) × (n ≡ length (take n xs))
 
 -- the bytes that were read stand at the front of the buffer; of an input that was not read whole there are none
 abbrev pub Taken : Input → List ℕ → Type 0

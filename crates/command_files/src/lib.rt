@@ -1,22 +1,34 @@
-// Reading a file to its end and writing a text whole, over the C library's read and write.
+// Reading a file to its end and writing a text whole, by std's single reads and writes.
 //
-//   open(path)               opens a file for reading
+//   open(files, path)        opens a file for reading
 //   read_whole(file, buf)    reads until the buffer is full or the input ends, or tells that a read failed
 //   write_whole(file, text)  writes a text, or tells that a write failed
 //   after_call(got, errno, buf)   tells what came of one call
+//   argument(env, number, word)   an argument of the program, and argument_count(env) how many there are
 //
-// What a call does to a file is in no contract of the kit, so no contract here says which bytes were read or written, and of which file: a program that reads or writes
-// elsewhere, or makes no call, meets those of `open`, `read_whole` and `write_whole`. What is made of a call's answer is an equation (`after_call`). The rest
+// What a call does to a file of the system is in no contract of the kit, so no contract here says which bytes were read or written, and of which file: a program that
+// reads or writes elsewhere, or makes no call, meets those of `open`, `read_whole` and `write_whole`. What is made of a call's answer is an equation (`after_call`). The rest
 // is tried by tests/command, with calls that fail or move one byte.
 //
-// The kit's `io::read_full` takes a read that fails for the end of the input, so it can't be used here: a block that was cut short must never
-// look like a whole one. A call that a signal interrupts (EINTR) is made again; any other failure is told.
+// A reader that takes a read that fails for the end of the input can't be used here: a block that was cut short must never
+// look like a whole one. A call that a signal interrupts (EINTR) is made again; any other failure is told. `open` leaves that to std, which makes
+// an interrupted open again.
 #![tactic(auto)]
 
 ghost use Rattle.std.specs.Prelude.{◌≡◌, length};
-ghost use Rattle.command_files.specs.Transfers.{turn_of, Taken, Gone, Found};
+ghost use Rattle.command_files.specs.Transfers.{turn_of, IsPrefixLen, IsWithin, Taken, Gone, Found};
 
-use libc::EINTR;
+use std::env::FillError;
+use std::fs::File;
+use std::io::{ErrorKind, Read, Write};
+use std::rt::{Env, Files};
+use std::{fs, io, str};
+
+// The number of the error of a call that a signal interrupted, as the system has it.
+const EINTR: i32 = 4;
+
+// The number of an error of input or output: of any error that isn't the system's.
+const EIO: i32 = 5;
 
 // The most calls that are made for one file or text: far more than it has bytes, so only a call that is interrupted again and again reaches it.
 const CALLS: u32 = 4000000000;
@@ -43,11 +55,12 @@ pub enum Turn {
 // A file that can be read, or none.
 #[derive(Drop)]
 pub enum Opened {
-    File(i32),
+    File(File),
     Closed,
 }
 
 // Tells what came of a call of read or write, by what it answered, errno and the bytes that it was handed.
+#[tactic(auto, unfolding(crate::specs::Transfers::turn_of, crate::specs::Transfers::interrupted))]
 pub fn after_call(got: isize, errno: i32, buf: &[u8]) -> Turn
     ensures { result ≡ turn_of got errno (length buf.now) }
 {
@@ -60,25 +73,47 @@ pub fn after_call(got: isize, errno: i32, buf: &[u8]) -> Turn
         }
         return Turn::Failed;
     }
-    Turn::Moved(io::count(got, buf))
+    let moved = got as usize;
+    Turn::Moved(moved.min(buf.len()))
+}
+
+// The number of an error, by which `after_call` tells what came of the call.
+fn number_of(error: &io::Error) -> i32 {
+    if error.kind() == ErrorKind::Interrupted {
+        return EINTR;
+    }
+    match error.raw_os_error() {
+        Some(EINTR) => EIO,
+        Some(number) => number,
+        None => EIO,
+    }
+}
+
+// Tells what came of a call of std's read or write, which was handed these bytes.
+#[tactic(auto, unfolding(crate::specs::Transfers::turn_of, crate::specs::Transfers::interrupted))]
+fn after_answer(answer: io::Result<usize>, buf: &[u8]) -> Turn
+    ensures { IsWithin result (length buf.now) }
+{
+    match answer {
+        Ok(moved) => after_call(isize::try_from(moved).unwrap_or(isize::MAX), 0, buf),
+        Err(error) => after_call(-1, number_of(&error), buf),
+    }
 }
 
 // Reads until the buffer is full or the input ends. A read that fails is told, wherever it happens.
-pub fn read_whole(file: i32, buf: &mut [u8]) -> Input
+pub fn read_whole<R: Read>(file: &mut R, buf: &mut [u8]) -> Input
     ensures { Taken result buf.new }
 {
     let mut done: usize = 0;
-    let mut calls = CALLS;
-    while calls > 0 {
-        calls -= 1;
+    for _ in 0..CALLS {
         if done >= buf.len() {
             return Input {
                 whole: true,
                 length: done,
             };
         }
-        let got = libc::read(file, &mut buf[done..]);
-        match after_call(got, os::errno(), &buf[done..]) {
+        let answer = file.read(&mut buf[done..]);
+        match after_answer(answer, &buf[done..]) {
             Turn::Moved(n) => done += n,
             Turn::Ended => {
                 return Input {
@@ -102,18 +137,16 @@ pub fn read_whole(file: i32, buf: &mut [u8]) -> Input
 }
 
 // Writes a text whole, or answers false; then some of it may have been written.
-pub fn write_whole(file: i32, text: &[u8]) -> bool
+pub fn write_whole<W: Write>(file: &mut W, text: &[u8]) -> bool
     ensures { Gone text.now result }
 {
     let mut done: usize = 0;
-    let mut calls = CALLS;
-    while calls > 0 {
-        calls -= 1;
+    for _ in 0..CALLS {
         if done >= text.len() {
             return true;
         }
-        let got = libc::write(file, &text[done..]);
-        match after_call(got, os::errno(), &text[done..]) {
+        let answer = file.write(&text[done..]);
+        match after_answer(answer, &text[done..]) {
             Turn::Moved(n) => done += n,
             Turn::Ended => return false,
             Turn::Interrupted => {}
@@ -123,23 +156,40 @@ pub fn write_whole(file: i32, text: &[u8]) -> bool
     false
 }
 
-// Opens a file for reading.
-pub fn open(path: &[u8]) -> Opened
+// Opens a file for reading. A path is UTF-8, as std has it: of any other there is no file.
+pub fn open(files: &impl Files<File = File>, path: &[u8]) -> Opened
     ensures { Found path.now result }
 {
     if path.len() == 0 {
         return Opened::Closed;
     }
-    let mut calls = CALLS;
-    while calls > 0 {
-        calls -= 1;
-        let file = os::open_read(path);
-        if file >= 0 {
-            return Opened::File(file);
-        }
-        if os::errno() != EINTR {
-            return Opened::Closed;
+    let Ok(name) = str::from_utf8(path) else {
+        return Opened::Closed;
+    };
+    match fs::open(files, name) {
+        Ok(file) => Opened::File(file),
+        Err(_) => Opened::Closed,
+    }
+}
+
+// Puts an argument at the front of the buffer, and returns how many bytes it has: none where it is missing or longer than the buffer.
+pub fn argument(env: &impl Env, number: usize, word: &mut [u8]) -> usize
+    ensures { IsPrefixLen result word.new }
+{
+    match env.arg(number, word) {
+        Ok(n) => n,
+        Err(_) => 0,
+    }
+}
+
+// How many arguments there are, with the name of the program.
+pub fn argument_count(env: &impl Env) -> usize {
+    for number in 0..usize::MAX {
+        match env.arg(number, &mut []) {
+            Err(FillError::NotPresent) => return number,
+            Err(FillError::TooLong) => {}
+            Ok(_) => {}
         }
     }
-    Opened::Closed
+    usize::MAX
 }

@@ -16,7 +16,7 @@ use Rattle.punycode_rules.specs.Labels.{spelling}
 use Rattle.identifier_rules.specs.Identifier.{identifier_byte}
 use Rattle.ownlist_rules.specs.OwnList.{own_list}
 use Rattle.ownlist_rules.specs.Spelled.{spelled_list}
-use Rattle.ownlist_laws.proofs.OwnLists.{list-few, good-few, list_length}
+use Rattle.ownlist_laws.proofs.OwnListLaws.{list-few, good-few, list_length}
 use Rattle.report_rules.specs.Report.{plain, escape}
 use Rattle.command_list_rules.specs.declared.Notice.{Notice}
 use Rattle.command_list_rules.specs.declared.Notice.TheVariants.{Mark, Hash, Unbare, Star, Unnoticed}

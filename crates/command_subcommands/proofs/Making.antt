@@ -17,7 +17,7 @@ use Rattle.ownlist_rules.specs.OwnList.{own_list}
 use Rattle.ownlist_rules.specs.Spelled.{spelled_list}
 use Rattle.ownlist_laws.proofs.Entries.{list-five}
 use Rattle.ownlist_laws.proofs.AsCompared.{list-lines}
-use Rattle.ownlist_laws.proofs.OwnLists.{list_length}
+use Rattle.ownlist_laws.proofs.OwnListLaws.{list_length}
 use Rattle.ownlist_check.specs.declared.Checked.{Checked}
 use Rattle.ownlist_check.specs.declared.Checked.TheVariants.{Good, Bad}
 use Rattle.ownlist_check.specs.Steps.{checked_of, number_of, place_of}

@@ -1,14 +1,13 @@
 -- The definitions at worked examples: each table pairs a text with what the document says of it, and the computed column is the stated
 -- one.
 use Prim.Native.Char.{code}
-use Prim.Native.Nat.{ℕ, zero, suc}
+use Prim.Native.Nat.{ℕ}
 use mathlib.Core.Path.{◌≡◌, refl}
-use mathlib.Core.Bool.{Bool, true, false}
+use mathlib.Core.Bool.{true, false}
 use mathlib.Core.List.{List, [], ◌∷◌, ◌++◌, map}
-use lib.ListN.{take}
 use Rattle.base_readers.specs.Texts.{bytes, within, one_of, same}
-use Rattle.base_readers.specs.Readers.{Reader, run, many, choose, between, passing, lasts}
-use Rattle.base_readers.proofs.Cases.{Case, case, Says, copies}
+use Rattle.base_readers.specs.Readers.{run, many, choose, between, passing, lasts}
+use Rattle.base_readers.proofs.Cases.{case, Says, copies}
 use Rattle.lexis_rules.specs.declared.Class.{Class}
 use Rattle.lexis_rules.specs.declared.Class.TheVariants.{Blank, Opening, Zero, Digit, Keyword, Token, Quoted, Comment, Escaped, Name, Visible, Delimiter, Tag}
 use Rattle.lexis_rules.specs.Bytes.{in_class, letter, lower, alike}

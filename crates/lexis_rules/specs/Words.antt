@@ -1,9 +1,9 @@
 -- The texts of the small pieces, and the pieces as parsers that yield them.
 use Prim.Native.Char.{code}
-use Rattle.std.specs.Prelude.{ℕ, ◌-◌, true, false, List, [], ◌∷◌, map, eqb, get_or, take, drop}
+use Rattle.std.specs.Prelude.{ℕ, ◌-◌, true, false, List, map, eqb, get_or, take, drop}
 use Rattle.base_readers.specs.Texts.{same}
 use Rattle.base_readers.specs.Readers.{lasts}
-use Rattle.base_readers.specs.Parsers.{Parser, ◌>>=◌, ◌>>◌, give, when, skipping, text, pass}
+use Rattle.base_readers.specs.Parsers.{Parser, ◌>>=◌, give, when, skipping, text, pass}
 use Rattle.lexis_rules.specs.declared.Class.TheVariants.{Quoted}
 use Rattle.lexis_rules.specs.declared.VersionNumber.{VersionNumber}
 use Rattle.lexis_rules.specs.Bytes.{lower}

@@ -22,7 +22,7 @@ use Rattle.base_readers.specs.Lines.{lines_of}
 use Rattle.ownlist_rules.specs.Spelled.{spelled_list, among_spelled, own_of_spelled}
 use Rattle.ownlist_rules.specs.Ends.{ends_of, cut_at}
 use Rattle.identifier.proofs.Identifiers.{identifier-found, identifier-not}
-use Rattle.ownlist_laws.proofs.OwnLists.{list-own}
+use Rattle.ownlist_laws.proofs.OwnListLaws.{list-own}
 use Rattle.ownlist_laws.proofs.Ends.{cut-ends, part-ends, part-inside, or_else, own-both}
 
 module _ (lines : List (List ℕ)) (body : List ℕ) where

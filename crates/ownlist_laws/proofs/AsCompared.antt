@@ -12,7 +12,7 @@ use Rattle.ownlist_rules.specs.OwnList.{own_list}
 use Rattle.ownlist_rules.specs.Listed.{own_of}
 use Rattle.ownlist_rules.specs.Spelled.{spelled_list, own_of_spelled}
 use Rattle.ownlist_rules.proofs.Unfolding.{opened}
-use Rattle.ownlist_laws.proofs.OwnLists as lists
+use Rattle.ownlist_laws.proofs.OwnListLaws as lists
 
 -- its lines are the spellings of the entries
 pub list-lines : (list : List ℕ) → lines_of (spelled_list (own_list list).items) ≡ map spelling (own_list list).items

@@ -21,7 +21,7 @@ use Rattle.ownlist_rules.specs.Spelled.{spelled_list, among_lines, among_spelled
 use Rattle.ownlist_rules.specs.Ends.{ends_from, ends_of, cut_at}
 use Rattle.base_sequences.specs.Spans.{span}
 use Rattle.base_readers.proofs.Lines.{lines-first}
-use Rattle.ownlist_laws.proofs.OwnLists.{spelled-few, good-few}
+use Rattle.ownlist_laws.proofs.OwnListLaws.{spelled-few, good-few}
 
 -- ==== one line after the other
 

@@ -29,7 +29,7 @@ use Rattle.ownlist_rules.specs.OwnList.{entry_limit, longest, entry_item, entry_
 use Rattle.ownlist_rules.specs.Terms.{Each, nil, cons, entry_point, all_entry_points, EntryPoints, Utf8Entries}
 use Rattle.ownlist_rules.proofs.Unfolding.{opened}
 use Rattle.ownlist_laws.proofs.Entries.{entry-fits, entry-is, entry-ends}
-use Rattle.ownlist_laws.proofs.OwnLists.{walk-each, walk-lined, list-few}
+use Rattle.ownlist_laws.proofs.OwnListLaws.{walk-each, walk-lined, list-few}
 use Rattle.ownlist_laws.proofs.TakenIsEncoded.{taken-encoded}
 use Rattle.ownlist_laws.proofs.EncodedIsTaken.{encoded-taken}
 

@@ -18,7 +18,7 @@ use Rattle.ownlist_rules.specs.OwnList.{entry_limit, entry, entry_at, own_list}
 use Rattle.ownlist_rules.specs.Terms.{Utf8Entries, BadAt}
 use Rattle.ownlist_rules.proofs.Unfolding.{opened}
 use Rattle.ownlist_laws.proofs.Entries.{entry-fits, list-five}
-use Rattle.ownlist_laws.proofs.OwnLists.{entry-cut, list-few}
+use Rattle.ownlist_laws.proofs.OwnListLaws.{entry-cut, list-few}
 use Rattle.ownlist_laws.proofs.EntriesInUtf8.{entry-coded, list-texts, texts-many, list-good-when, entry-points, onto, walk-points, latin-instance}
 
 -- a walk that stops: behind the entries that it took something is left, and that begins with no entry, or with one too many

@@ -1,6 +1,6 @@
 pub mod Entries
 pub mod EntryBytes
-pub mod OwnLists
+pub mod OwnListLaws
 pub mod Ends
 pub mod AsCompared
 pub mod RepeatedEntries

@@ -8,7 +8,7 @@ use Rattle.base_sequences.specs.Stored.{Put}
 use Rattle.base_sequences.proofs.Splices.{put-long}
 use Rattle.ownlist_rules.specs.OwnList.{own_list}
 use Rattle.ownlist_rules.specs.Spelled.{spelled_list}
-use Rattle.ownlist_laws.proofs.OwnLists.{list_length}
+use Rattle.ownlist_laws.proofs.OwnListLaws.{list_length}
 
 -- `first` is the room, `own` what it holds with the list in it, of which n bytes are the list's
 module _ (list first own : List ℕ) (n : ℕ) (w : Put first 0 (spelled_list (own_list list).items) own n) (k : 65344 ≡ length first) where

@@ -6,71 +6,69 @@
 #![tactic(auto)]
 
 use arc_rules::Judged;
-use libc::STDOUT_FILENO;
-use sample_support::{arguments, lines};
+use sample_support::{arguments, buffers, lines};
+use std::rt::{Env, Files};
 
 // The most bytes of a block that are read.
 const MOST: usize = 65540;
 
 // Writes the front half of the answer.
-fn put_outcome(r: Judged) {
-    let mut line = io::buffer();
+fn put_outcome(rt: &impl Print, r: Judged) {
+    let mut line = buffers::line();
     let a = lines::put_number(b": number ", r.number as u64, &mut line, 0);
     let b = lines::put_number(b" place ", r.place as u64, &mut line, a);
     let c = lines::put_number(b" outcome ", r.outcome as u64, &mut line, b);
     let d = lines::put_number(b" reason ", r.reason as u64, &mut line, c);
     let n = lines::put_number(b" field ", r.field as u64, &mut line, d);
-    io::write_all(STDOUT_FILENO, &line[..n]);
+    arguments::put(rt, &line[..n]);
 }
 
 // Writes the other half.
-fn put_status(r: Judged) {
-    let mut line = io::buffer();
+fn put_status(rt: &impl Print, r: Judged) {
+    let mut line = buffers::line();
     let a = lines::put_number(b" instances ", r.instances as u64, &mut line, 0);
     let b = lines::put_number(b" status ", r.status as u64, &mut line, a);
     let n = lines::put_number(b" oldest ", r.oldest as u64, &mut line, b);
-    io::write_all(STDOUT_FILENO, &line[..n]);
+    arguments::put(rt, &line[..n]);
 }
 
 // Judges and writes the answer.
-fn put_judged(block: &[u8], verdicts: &[u8]) {
+fn put_judged(rt: &impl Print, block: &[u8], verdicts: &[u8]) {
     let r = arc::judge(block, verdicts);
-    put_outcome(r);
-    put_status(r);
+    put_outcome(rt, r);
+    put_status(rt, r);
 }
 
 // Judges by the text of the verdicts, and writes the answer.
-fn run(block: &[u8], text: &[u8]) {
-    let mut verdicts = io::buffer();
+fn run(rt: &impl Print, block: &[u8], text: &[u8]) {
+    let mut verdicts = buffers::line();
     let m = sample_support::digits(text, &mut verdicts);
-    put_judged(block, &verdicts[..m]);
+    put_judged(rt, block, &verdicts[..m]);
 }
 
 // One case: the number of each of its two arguments.
-fn one_case(block: usize, verdicts: usize) {
+fn one_case(rt: &(impl Env + Files + Print), block: usize, verdicts: usize) {
     let mut bytes = [0u8; MOST];
-    let file = arguments::read_file(block, &mut bytes);
-    let mut text = io::buffer();
-    let m = os::arg(verdicts, &mut text);
-    io::write_all(STDOUT_FILENO, &text[..m]);
+    let file = arguments::read_file(rt, block, &mut bytes);
+    let mut text = buffers::line();
+    let m = arguments::text_of(rt, verdicts, &mut text);
+    arguments::put(rt, &text[..m]);
     if !file.found {
-        io::write_all(STDOUT_FILENO, b": no file\n");
+        arguments::put(rt, b": no file\n");
         return;
     }
     let n = file.length;
-    run(&bytes[..n], &text[..m]);
-    io::write_all(STDOUT_FILENO, b"\n");
+    run(rt, &bytes[..n], &text[..m]);
+    arguments::put(rt, b"\n");
 }
 
 // Runs one case after the other.
-fn main() {
-    let n = os::arg_count();
-    let mut i: usize = 1;
-    while i < n {
+fn main(rt: HostRuntime) {
+    let n = arguments::count(&rt);
+    for i in (1..n).step_by(2) {
         if n - i < 2 {
             return;
         }
-        one_case(i, i + 1);
-        i += 2;
+        one_case(&rt, i, i + 1);
     }
 }

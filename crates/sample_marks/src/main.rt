@@ -12,8 +12,8 @@
 // enough on the far side of each limit.
 #![tactic(auto)]
 
-use libc::STDOUT_FILENO;
-use sample_support::{arguments, lines};
+use sample_support::{arguments, buffers, lines};
+use std::rt::{Env, Files};
 use strip_rules::Stripped;
 use strip_steps_rules::Marked;
 
@@ -21,98 +21,104 @@ use strip_steps_rules::Marked;
 const MOST: usize = 65540;
 
 // Writes the answer of the first step, and what holds of the lent bytes: the marks in front, and those past them.
-fn put_marked(r: Marked, out: &[u8]) {
-    let mut line = io::buffer();
+fn put_marked(rt: &impl Print, r: Marked, out: &[u8]) {
+    let mut line = buffers::line();
     let a = lines::put_number(b": mark number ", r.number as u64, &mut line, 0);
     let b = lines::put_number(b" place ", r.place as u64, &mut line, a);
     let c = lines::put_number(b" written ", r.written as u64, &mut line, b);
     let n = lines::put_sums(out, r.written, &mut line, c);
-    io::write_all(STDOUT_FILENO, &line[..n]);
+    arguments::put(rt, &line[..n]);
 }
 
 // Writes the answer of the second step, and what holds of the lent bytes: the kept ones in front, and those past them.
-fn put_copied(r: Stripped, out: &[u8]) {
-    let mut line = io::buffer();
+fn put_copied(rt: &impl Print, r: Stripped, out: &[u8]) {
+    let mut line = buffers::line();
     let a = lines::put_number(b"; copy number ", r.number as u64, &mut line, 0);
     let b = lines::put_number(b" place ", r.place as u64, &mut line, a);
     let c = lines::put_number(b" kept ", r.kept as u64, &mut line, b);
     let d = lines::put_number(b" removed ", r.removed as u64, &mut line, c);
     let e = lines::put_number(b" fields ", r.fields as u64, &mut line, d);
     let n = lines::put_sums(out, r.kept, &mut line, e);
-    io::write_all(STDOUT_FILENO, &line[..n]);
+    arguments::put(rt, &line[..n]);
 }
 
 // Marks into the lent bytes, and writes the answer and what holds of them.
-fn mark_into(block: &[u8], list: &[u8], out: &mut [u8]) {
+fn mark_into(rt: &impl Print, block: &[u8], list: &[u8], out: &mut [u8]) {
     let r = strip::mark(block, list, out);
-    put_marked(r, out);
+    put_marked(rt, r, out);
 }
 
 // Marks into so many lent bytes, each 170, and writes the answer.
-fn run_mark(block: &[u8], list: &[u8], room: usize) {
-    let mut out = sample_support::buffers::untouched();
+fn run_mark(rt: &impl Print, block: &[u8], list: &[u8], room: usize) {
+    let mut out = buffers::untouched();
     let lent = sample_support::front(&out, room);
-    mark_into(block, list, &mut out[..lent]);
+    mark_into(rt, block, list, &mut out[..lent]);
 }
 
 // Copies into the lent bytes, and writes the answer and what holds of them.
-fn copy_into(block: &[u8], list: &[u8], marks: &[u8], out: &mut [u8]) {
+fn copy_into(rt: &impl Print, block: &[u8], list: &[u8], marks: &[u8], out: &mut [u8]) {
     let r = strip::copy(block, list, marks, out);
-    put_copied(r, out);
+    put_copied(rt, r, out);
 }
 
 // Copies into so many lent bytes, each 170, and writes the answer.
-fn run_copy(block: &[u8], list: &[u8], marks: &[u8], room: usize) {
-    let mut out = sample_support::buffers::untouched();
+fn run_copy(rt: &impl Print, block: &[u8], list: &[u8], marks: &[u8], room: usize) {
+    let mut out = buffers::untouched();
     let lent = sample_support::front(&out, room);
-    copy_into(block, list, marks, &mut out[..lent]);
+    copy_into(rt, block, list, marks, &mut out[..lent]);
 }
 
 // One case: the number of each of its five arguments.
-fn one_case(block: usize, list: usize, marks: usize, mark_lent: usize, copy_lent: usize) {
+fn one_case(
+    rt: &(impl Env + Files + Print),
+    block: usize,
+    list: usize,
+    marks: usize,
+    mark_lent: usize,
+    copy_lent: usize,
+) {
     let mut block_bytes = [0u8; MOST];
-    let block_file = arguments::read_file(block, &mut block_bytes);
+    let block_file = arguments::read_file(rt, block, &mut block_bytes);
     let mut list_bytes = [0u8; 32768];
-    let list_file = arguments::read_file(list, &mut list_bytes);
+    let list_file = arguments::read_file(rt, list, &mut list_bytes);
     let mut marks_bytes = [0u8; 1024];
-    let marks_file = arguments::read_file(marks, &mut marks_bytes);
-    let mark_room = arguments::room_of(mark_lent, MOST);
-    io::write_all(STDOUT_FILENO, b" ");
-    let copy_room = arguments::room_of(copy_lent, MOST);
+    let marks_file = arguments::read_file(rt, marks, &mut marks_bytes);
+    let mark_room = arguments::room_of(rt, mark_lent, MOST);
+    arguments::put(rt, b" ");
+    let copy_room = arguments::room_of(rt, copy_lent, MOST);
     if !block_file.found {
-        io::write_all(STDOUT_FILENO, b": no file\n");
+        arguments::put(rt, b": no file\n");
         return;
     }
     if !list_file.found {
-        io::write_all(STDOUT_FILENO, b": no file\n");
+        arguments::put(rt, b": no file\n");
         return;
     }
     if !marks_file.found {
-        io::write_all(STDOUT_FILENO, b": no file\n");
+        arguments::put(rt, b": no file\n");
         return;
     }
     let n = block_file.length;
     let m = list_file.length;
     let k = marks_file.length;
-    run_mark(&block_bytes[..n], &list_bytes[..m], mark_room);
+    run_mark(rt, &block_bytes[..n], &list_bytes[..m], mark_room);
     run_copy(
+        rt,
         &block_bytes[..n],
         &list_bytes[..m],
         &marks_bytes[..k],
         copy_room,
     );
-    io::write_all(STDOUT_FILENO, b"\n");
+    arguments::put(rt, b"\n");
 }
 
 // Runs one case after the other.
-fn main() {
-    let n = os::arg_count();
-    let mut i: usize = 1;
-    while i < n {
+fn main(rt: HostRuntime) {
+    let n = arguments::count(&rt);
+    for i in (1..n).step_by(5) {
         if n - i < 5 {
             return;
         }
-        one_case(i, i + 1, i + 2, i + 3, i + 4);
-        i += 5;
+        one_case(&rt, i, i + 1, i + 2, i + 3, i + 4);
     }
 }

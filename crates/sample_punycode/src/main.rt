@@ -15,9 +15,9 @@
 // from RFC 3492 and ticket [2] of document 02; where it decodes, it was held to a third one, and on the sample strings to the RFC's code points.
 #![tactic(auto)]
 
-use libc::STDOUT_FILENO;
 use punycode::{Decoded, Spelling};
-use sample_support::{arguments, lines};
+use sample_support::{arguments, buffers, lines};
+use std::rt::{Env, Files};
 
 // The most bytes of a label or text that are read.
 const MOST: usize = 16384;
@@ -26,29 +26,29 @@ const MOST: usize = 16384;
 const MOST_LENT: usize = 4096;
 
 // Writes what holds of the lent bytes: the written ones in front, and those past them.
-fn put_bytes(out: &[u8], written: usize) {
-    let mut line = io::buffer();
+fn put_bytes(rt: &impl Print, out: &[u8], written: usize) {
+    let mut line = buffers::line();
     let n = lines::put_bytes(out, written, &mut line, 0);
-    io::write_all(STDOUT_FILENO, &line[..n]);
+    arguments::put(rt, &line[..n]);
 }
 
 // Decodes into the lent bytes, and writes the answer and what holds of them.
-fn decode_into(label: &[u8], out: &mut [u8]) {
+fn decode_into(rt: &impl Print, label: &[u8], out: &mut [u8]) {
     let d = punycode::decode(label, out);
     match d {
         Decoded::Text { length } => {
-            let mut line = io::buffer();
+            let mut line = buffers::line();
             let n = lines::put_number(b": text ", length as u64, &mut line, 0);
-            io::write_all(STDOUT_FILENO, &line[..n]);
-            put_bytes(out, length);
+            arguments::put(rt, &line[..n]);
+            put_bytes(rt, out, length);
         }
         Decoded::Failed => {
-            io::write_all(STDOUT_FILENO, b": failed");
-            put_bytes(out, 0);
+            arguments::put(rt, b": failed");
+            put_bytes(rt, out, 0);
         }
         Decoded::Long => {
-            io::write_all(STDOUT_FILENO, b": long");
-            put_bytes(out, 0);
+            arguments::put(rt, b": long");
+            put_bytes(rt, out, 0);
         }
     }
 }
@@ -70,61 +70,59 @@ fn number_if(b: bool) -> u64 {
 }
 
 // Spells into the lent bytes, and writes the answers and what holds of them.
-fn spell_into(text: &[u8], out: &mut [u8]) {
+fn spell_into(rt: &impl Print, text: &[u8], out: &mut [u8]) {
     let double = number_if(punycode_hyphens::has_double_hyphen(text));
     let length = punycode::spell(text, out);
-    let mut line = io::buffer();
+    let mut line = buffers::line();
     let a = lines::put_number(b": double hyphen ", double, &mut line, 0);
     let n = lines::put_number(b" length ", length as u64, &mut line, a);
-    io::write_all(STDOUT_FILENO, &line[..n]);
-    put_bytes(out, written(length));
+    arguments::put(rt, &line[..n]);
+    put_bytes(rt, out, written(length));
 }
 
 // Decodes or spells.
-fn run_into(decoding: bool, s: &[u8], out: &mut [u8]) {
+fn run_into(rt: &impl Print, decoding: bool, s: &[u8], out: &mut [u8]) {
     if decoding {
-        return decode_into(s, out);
+        return decode_into(rt, s, out);
     }
-    spell_into(s, out);
+    spell_into(rt, s, out);
 }
 
 // Decodes or spells into so many lent bytes, each 170, and writes the answer.
-fn run(decoding: bool, s: &[u8], room: usize) {
+fn run(rt: &impl Print, decoding: bool, s: &[u8], room: usize) {
     let mut out = [170u8; MOST_LENT];
     let lent = sample_support::front(&out, room);
-    run_into(decoding, s, &mut out[..lent]);
+    run_into(rt, decoding, s, &mut out[..lent]);
 }
 
 // Whether an argument names a label, not a text.
-fn is_label(argument: usize) -> bool {
-    let mut path = io::buffer();
-    let n = os::arg(argument, &mut path);
+fn is_label(rt: &impl Env, argument: usize) -> bool {
+    let mut path = buffers::line();
+    let n = arguments::text_of(rt, argument, &mut path);
     base_readers::is_at(&path[..n], 0, 0, b'd')
 }
 
 // One case: the number of each of its two arguments.
-fn one_case(named: usize, lent: usize) {
+fn one_case(rt: &(impl Env + Files + Print), named: usize, lent: usize) {
     let mut bytes = [0u8; MOST];
-    let file = arguments::read_file(named, &mut bytes);
-    let room = arguments::room_of(lent, MOST_LENT);
+    let file = arguments::read_file(rt, named, &mut bytes);
+    let room = arguments::room_of(rt, lent, MOST_LENT);
     if !file.found {
-        io::write_all(STDOUT_FILENO, b": no file\n");
+        arguments::put(rt, b": no file\n");
         return;
     }
     let n = file.length;
-    run(is_label(named), &bytes[..n], room);
-    io::write_all(STDOUT_FILENO, b"\n");
+    run(rt, is_label(rt, named), &bytes[..n], room);
+    arguments::put(rt, b"\n");
 }
 
 // Runs one case after the other.
-fn main() {
-    let n = os::arg_count();
-    let mut i: usize = 1;
-    while i < n {
+fn main(rt: HostRuntime) {
+    let n = arguments::count(&rt);
+    for i in (1..n).step_by(2) {
         if n - i < 2 {
             return;
         }
-        one_case(i, i + 1);
-        i += 2;
+        one_case(&rt, i, i + 1);
     }
 }

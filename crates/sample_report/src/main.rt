@@ -15,9 +15,9 @@
 // answer worked out by hand.
 #![tactic(auto)]
 
-use libc::STDOUT_FILENO;
 use report_rules::Reported;
-use sample_support::{arguments, lines};
+use sample_support::{arguments, buffers, lines};
+use std::rt::{Env, Files};
 
 // The most bytes of a body that are read.
 const MOST: usize = 65540;
@@ -26,52 +26,50 @@ const MOST: usize = 65540;
 const MOST_LENT: usize = 200000;
 
 // Writes the answer, and what holds of the lent bytes: the written ones in front, and those past them.
-fn put_answer(r: Reported, out: &[u8]) {
-    let mut line = io::buffer();
+fn put_answer(rt: &impl Print, r: Reported, out: &[u8]) {
+    let mut line = buffers::line();
     let a = lines::put_number(b": number ", r.number as u64, &mut line, 0);
     let b = lines::put_number(b" place ", r.place as u64, &mut line, a);
     let c = lines::put_number(b" written ", r.written as u64, &mut line, b);
     let d = lines::put_number(b" ignored ", r.ignored as u64, &mut line, c);
     let n = lines::put_bytes(out, r.written, &mut line, d);
-    io::write_all(STDOUT_FILENO, &line[..n]);
+    arguments::put(rt, &line[..n]);
 }
 
 // Reports into the lent bytes, and writes the answer and what holds of them.
-fn report_into(body: &[u8], out: &mut [u8]) {
+fn report_into(rt: &impl Print, body: &[u8], out: &mut [u8]) {
     let r = report::report(body, out);
-    put_answer(r, out);
+    put_answer(rt, r, out);
 }
 
 // Reports a body into so many lent bytes, each 170, and writes the answer.
-fn run(body: &[u8], room: usize) {
-    let mut out = sample_support::buffers::untouched();
+fn run(rt: &impl Print, body: &[u8], room: usize) {
+    let mut out = buffers::untouched();
     let lent = sample_support::front(&out, room);
-    report_into(body, &mut out[..lent]);
+    report_into(rt, body, &mut out[..lent]);
 }
 
 // One case: the number of each of its two arguments.
-fn one_case(body: usize, lent: usize) {
+fn one_case(rt: &(impl Env + Files + Print), body: usize, lent: usize) {
     let mut bytes = [0u8; MOST];
-    let file = arguments::read_file(body, &mut bytes);
-    let room = arguments::room_of(lent, MOST_LENT);
+    let file = arguments::read_file(rt, body, &mut bytes);
+    let room = arguments::room_of(rt, lent, MOST_LENT);
     if !file.found {
-        io::write_all(STDOUT_FILENO, b": no file\n");
+        arguments::put(rt, b": no file\n");
         return;
     }
     let n = file.length;
-    run(&bytes[..n], room);
-    io::write_all(STDOUT_FILENO, b"\n");
+    run(rt, &bytes[..n], room);
+    arguments::put(rt, b"\n");
 }
 
 // Runs one case after the other.
-fn main() {
-    let n = os::arg_count();
-    let mut i: usize = 1;
-    while i < n {
+fn main(rt: HostRuntime) {
+    let n = arguments::count(&rt);
+    for i in (1..n).step_by(2) {
         if n - i < 2 {
             return;
         }
-        one_case(i, i + 1);
-        i += 2;
+        one_case(&rt, i, i + 1);
     }
 }

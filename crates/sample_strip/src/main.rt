@@ -9,23 +9,23 @@
 // lent, which is enough on the far side of each limit.
 #![tactic(auto)]
 
-use libc::STDOUT_FILENO;
-use sample_support::{arguments, lines};
+use sample_support::{arguments, buffers, lines};
+use std::rt::{Env, Files};
 use strip_rules::Stripped;
 
 // The most bytes of a block that are read, and the most that are lent.
 const MOST: usize = 65540;
 
 // Writes the answer, and what holds of the lent bytes: the kept ones in front, and those past them.
-fn put_answer(r: Stripped, out: &[u8]) {
-    let mut line = io::buffer();
+fn put_answer(rt: &impl Print, r: Stripped, out: &[u8]) {
+    let mut line = buffers::line();
     let a = lines::put_number(b": number ", r.number as u64, &mut line, 0);
     let b = lines::put_number(b" place ", r.place as u64, &mut line, a);
     let c = lines::put_number(b" kept ", r.kept as u64, &mut line, b);
     let d = lines::put_number(b" removed ", r.removed as u64, &mut line, c);
     let e = lines::put_number(b" fields ", r.fields as u64, &mut line, d);
     let n = lines::put_sums(out, r.kept, &mut line, e);
-    io::write_all(STDOUT_FILENO, &line[..n]);
+    arguments::put(rt, &line[..n]);
 }
 
 // Marks the fields that go, with room for as many as there may be, and copies the rest.
@@ -46,48 +46,46 @@ fn strip_in_steps(block: &[u8], list: &[u8], out: &mut [u8]) -> Stripped {
 }
 
 // Strips into the lent bytes, and writes the answer and what holds of them.
-fn strip_into(block: &[u8], list: &[u8], out: &mut [u8]) {
+fn strip_into(rt: &impl Print, block: &[u8], list: &[u8], out: &mut [u8]) {
     let r = strip_in_steps(block, list, out);
-    put_answer(r, out);
+    put_answer(rt, r, out);
 }
 
 // Strips into so many lent bytes, each 170, and writes the answer.
-fn run(block: &[u8], list: &[u8], room: usize) {
-    let mut out = sample_support::buffers::untouched();
+fn run(rt: &impl Print, block: &[u8], list: &[u8], room: usize) {
+    let mut out = buffers::untouched();
     let lent = sample_support::front(&out, room);
-    strip_into(block, list, &mut out[..lent]);
+    strip_into(rt, block, list, &mut out[..lent]);
 }
 
 // One case: the number of each of its three arguments.
-fn one_case(block: usize, list: usize, lent: usize) {
+fn one_case(rt: &(impl Env + Files + Print), block: usize, list: usize, lent: usize) {
     let mut block_bytes = [0u8; MOST];
-    let block_file = arguments::read_file(block, &mut block_bytes);
+    let block_file = arguments::read_file(rt, block, &mut block_bytes);
     let mut list_bytes = [0u8; 32768];
-    let list_file = arguments::read_file(list, &mut list_bytes);
-    let room = arguments::room_of(lent, MOST);
+    let list_file = arguments::read_file(rt, list, &mut list_bytes);
+    let room = arguments::room_of(rt, lent, MOST);
     if !block_file.found {
-        io::write_all(STDOUT_FILENO, b": no file\n");
+        arguments::put(rt, b": no file\n");
         return;
     }
     if !list_file.found {
-        io::write_all(STDOUT_FILENO, b": no file\n");
+        arguments::put(rt, b": no file\n");
         return;
     }
     let n = block_file.length;
     let m = list_file.length;
-    run(&block_bytes[..n], &list_bytes[..m], room);
-    io::write_all(STDOUT_FILENO, b"\n");
+    run(rt, &block_bytes[..n], &list_bytes[..m], room);
+    arguments::put(rt, b"\n");
 }
 
 // Runs one case after the other.
-fn main() {
-    let n = os::arg_count();
-    let mut i: usize = 1;
-    while i < n {
+fn main(rt: HostRuntime) {
+    let n = arguments::count(&rt);
+    for i in (1..n).step_by(3) {
         if n - i < 3 {
             return;
         }
-        one_case(i, i + 1, i + 2);
-        i += 3;
+        one_case(&rt, i, i + 1, i + 2);
     }
 }

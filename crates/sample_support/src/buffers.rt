@@ -4,6 +4,14 @@
 // its length.
 ghost use Rattle.std.specs.Prelude.{◌≡◌, length, replicate};
 
+// Room for an argument, or a line: 4,096 zeros.
+pub fn line() -> [u8; 4096]
+    ensures value { result ≡ replicate 4096 0 }
+    ensures value_2 { 4096 ≡ length result }
+{
+    [0u8; 4096]
+}
+
 // Room for the file of a case: 210,000 zeros.
 pub fn zeros() -> [u8; 210000]
     ensures value { result ≡ replicate 210000 0 }

@@ -16,92 +16,90 @@
 // another language.
 #![tactic(auto)]
 
-use libc::STDOUT_FILENO;
 use report_rules::Reported;
-use sample_support::{arguments, lines};
+use sample_support::{arguments, buffers, lines};
+use std::rt::{Env, Files};
 use write_rules::Written;
 
 // The most bytes that are lent.
 const MOST_LENT: usize = 66000;
 
 // Writes the answer, and what holds of the lent bytes: the written ones in front, and those past them.
-fn put_answer(w: Written, out: &[u8]) {
-    let mut line = io::buffer();
+fn put_answer(rt: &impl Print, w: Written, out: &[u8]) {
+    let mut line = buffers::line();
     let a = lines::put_number(b": number ", w.number as u64, &mut line, 0);
     let b = lines::put_number(b" place ", w.place as u64, &mut line, a);
     let c = lines::put_number(b" written ", w.written as u64, &mut line, b);
     let n = lines::put_bytes(out, w.written, &mut line, c);
-    io::write_all(STDOUT_FILENO, &line[..n]);
+    arguments::put(rt, &line[..n]);
 }
 
 // Writes what is said of the body that was written.
-fn put_report(r: Reported) {
-    let mut line = io::buffer();
+fn put_report(rt: &impl Print, r: Reported) {
+    let mut line = buffers::line();
     let a = lines::put_number(b" read back number ", r.number as u64, &mut line, 0);
     let b = lines::put_number(b" place ", r.place as u64, &mut line, a);
     let n = lines::put_number(b" ignored ", r.ignored as u64, &mut line, b);
-    io::write_all(STDOUT_FILENO, &line[..n]);
+    arguments::put(rt, &line[..n]);
 }
 
 // Writes whether a report of so many bytes is the given lines.
-fn put_same(given: &[u8], reported: &[u8], count: usize) {
+fn put_same(rt: &impl Print, given: &[u8], reported: &[u8], count: usize) {
     let n = sample_support::front(reported, count);
     if text_compare::exact::is_same(given, &reported[..n]) {
-        io::write_all(STDOUT_FILENO, b" same");
+        arguments::put(rt, b" same");
         return;
     }
-    io::write_all(STDOUT_FILENO, b" differs");
+    arguments::put(rt, b" differs");
 }
 
 // Reports the body that was written, where the number is 0, and compares that with the given lines.
-fn read_back(given: &[u8], out: &[u8], w: Written) {
+fn read_back(rt: &impl Print, given: &[u8], out: &[u8], w: Written) {
     if w.number != 0 {
         return;
     }
     let n = sample_support::front(out, w.written);
-    let mut reported = sample_support::buffers::zeros();
+    let mut reported = buffers::zeros();
     let r = report::report(&out[..n], &mut reported);
-    put_report(r);
-    put_same(given, &reported, r.written);
+    put_report(rt, r);
+    put_same(rt, given, &reported, r.written);
 }
 
 // Writes the body of the given lines into the lent bytes, and says the answer and what holds of them.
-fn write_into(given: &[u8], out: &mut [u8]) {
+fn write_into(rt: &impl Print, given: &[u8], out: &mut [u8]) {
     let w = write::write(given, out);
-    put_answer(w, out);
-    read_back(given, out, w);
+    put_answer(rt, w, out);
+    read_back(rt, given, out, w);
 }
 
 // Writes the body of the given lines into so many lent bytes, each 170, and says the answer.
-fn run(given: &[u8], room: usize) {
-    let mut out = sample_support::buffers::untouched();
+fn run(rt: &impl Print, given: &[u8], room: usize) {
+    let mut out = buffers::untouched();
     let lent = sample_support::front(&out, room);
-    write_into(given, &mut out[..lent]);
+    write_into(rt, given, &mut out[..lent]);
 }
 
 // One case: the number of each of its two arguments.
-fn one_case(given: usize, lent: usize) {
-    let mut bytes = sample_support::buffers::zeros();
-    let file = arguments::read_file(given, &mut bytes);
-    let room = arguments::room_of(lent, MOST_LENT);
+fn one_case(rt: &(impl Env + Files + Print), given: usize, lent: usize) {
+    let mut bytes = buffers::zeros();
+    let file = arguments::read_file(rt, given, &mut bytes);
+    let room = arguments::room_of(rt, lent, MOST_LENT);
     if !file.found {
-        io::write_all(STDOUT_FILENO, b": no file\n");
+        arguments::put(rt, b": no file\n");
         return;
     }
     let n = file.length;
-    run(&bytes[..n], room);
-    io::write_all(STDOUT_FILENO, b"\n");
+    run(rt, &bytes[..n], room);
+    arguments::put(rt, b"\n");
 }
 
 // Runs one case after the other.
-fn main() {
-    let n = os::arg_count();
-    let mut i: usize = 1;
-    while i < n {
+fn main(rt: HostRuntime) {
+    let n = arguments::count(&rt);
+    for i in (1..n).step_by(2) {
         if n - i < 2 {
             return;
         }
-        one_case(i, i + 1);
-        i += 2;
+        one_case(&rt, i, i + 1);
     }
 }

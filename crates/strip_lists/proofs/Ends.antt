@@ -13,7 +13,7 @@ use Rattle.ownlist_rules.specs.OwnList.{entry_limit, own_list}
 use Rattle.ownlist_rules.specs.Ends.{ends_of, cut_at}
 use Rattle.ownlist_rules.specs.Spelled.{spelled_list, among_spelled}
 use Rattle.ownlist_laws.proofs.Ends.{cut-ends, spelled-ends, good-ends}
-use Rattle.ownlist_laws.proofs.OwnLists.{list-among}
+use Rattle.ownlist_laws.proofs.OwnListLaws.{list-among}
 use Rattle.ownlist_ready.specs.declared.Ready.TheVariants.{Refused, AsItStands, ToSpell}
 use Rattle.ownlist_ready.specs.Answers.{ready_of}
 use Rattle.ownlist_ready.proofs.CallsGoOn.{ready_refused, ready-as-it-stands, ready-to-spell, as-it-stands-goes-on, as-it-stands-spelled}

@@ -110,6 +110,7 @@ are-kept = goes is_removed (stays not-other (goes is_removed (stays not-other en
 
 -- one that is to be removed is not there, and one that is not is not left out
 not-staying : Kept only_b (unread ∷ []) (unread ∷ []) → ⊥
+not-staying (goes _ x) = elim x [ ]
 not-staying (stays n k) = n is_removed
 
 not_going : Kept only_b (other ∷ []) [] → ⊥

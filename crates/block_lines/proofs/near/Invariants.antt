@@ -1,0 +1,15 @@
+-- `block_lines::near` meets its contract: from each place of the loop the line ends where it ends from the first.
+use Prim.Native.Nat.{◌-◌}
+use native.Mathlib.Omega.{arith}
+use borrow.Author.Rules.{rules}
+use lib.ListN.{length}
+use Rattle.base_readers.specs.Places.{Reaches}
+use Rattle.base_readers.proofs.Loops.{reaches-start, run_on, run-off, run_out}
+use Rattle.block_rules.specs.Fields.{line_text}
+use Rattle.block_lines.proofs.near.Given as goal
+
+abbrev pub invariant-loop-i : goal.invariant-loop-i
+invariant-loop-i l = Reaches line_text l.s l.at l.i
+
+abbrev pub decreases-loop-i : goal.decreases-loop-i
+decreases-loop-i l = length l.s - l.i

@@ -1,0 +1,34 @@
+use native.Mathlib.Omega.{arith}
+use borrow.Author.Rules.{rules}
+use Prim.Native.Nat.{◌-◌}
+use mathlib.Core.Path.{◌≡◌, sym, ◌∙◌}
+use lib.ListN.{length, drop}
+use Rattle.block.specs.declared.Next.TheVariants.{Field}
+use Rattle.block.specs.Steps.{next_from}
+use Rattle.block.proofs.Steps.{Cut, step_field}
+use Rattle.block_walk.proofs.Searching.{Searching, search-long, search-start, search-end, search-refused, search-found, search-on}
+use Rattle.block_walk.proofs.steps.step_from.Goals as goal
+
+pub returns-then-too_long : goal.returns-then-too_long
+returns-then-too_long c = search-long _ _ _ c.too_long.ensures c.if-too_long.true
+
+pub loop-start-init : goal.loop-start-init
+loop-start-init c = rw c.fresh-fresh.ensures (search-start _ _ _ c.too_long.ensures c.if-too_long.false)
+
+pub returns-then-from-start : goal.returns-then-from-start
+returns-then-from-start c = search-found _ _ _ _ c.loop-start.invariant _ _ _ _ (sym c.in-Field.is ∙ c.next_field.ensures) (omega (arith, c.if-from-start.true))
+
+pub overflow_add-count : goal.overflow_add-count
+overflow_add-count c = omega (arith, (step_field _ _ _ _ _ _ _ (sym c.in-Field.is ∙ c.next_field.ensures)), c.loop-start.invariant)
+
+pub loop-start-smaller : goal.loop-start-smaller
+loop-start-smaller c = omega (arith, (step_field _ _ _ _ _ _ _ (sym c.in-Field.is ∙ c.next_field.ensures)), c.loop-start.invariant)
+
+pub loop-start-preserved : goal.loop-start-preserved
+loop-start-preserved c = search-on _ _ _ _ c.loop-start.invariant _ _ _ _ (sym c.in-Field.is ∙ c.next_field.ensures) (omega (arith, c.if-from-start.false))
+
+pub returns-in-End : goal.returns-in-End
+returns-in-End c = search-end _ _ _ _ c.loop-start.invariant (sym c.in-End.is ∙ c.next_field.ensures)
+
+pub returns-in-Refused : goal.returns-in-Refused
+returns-in-Refused c = search-refused _ _ _ _ c.loop-start.invariant _ _ (sym c.in-Refused.is ∙ c.next_field.ensures)

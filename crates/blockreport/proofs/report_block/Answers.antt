@@ -1,0 +1,21 @@
+-- `blockreport::report_block` meets its contract: one law for each way out.
+use borrow.Author.Rules.{rules}
+use mathlib.Core.Path.{sym, ◌∙◌}
+use Rattle.ownlist_ready.proofs.CallsGoOn.{as-it-stands-goes-on, to-spell-goes-on}
+use Rattle.blockreport.proofs.Ends.{answer-1-5, answer-listed, answer-plain}
+use Rattle.blockreport.proofs.report_block.Goals as goal
+
+pub report_by-requires : goal.report_by-requires
+report_by-requires c = (as-it-stands-goes-on c.args.block.now c.args.list.now (sym c.in-AsItStands.is ∙ c.readiness.ensures)).0
+
+pub report_spelled-requires : goal.report_spelled-requires
+report_spelled-requires c = (to-spell-goes-on c.args.block.now c.args.list.now (sym c.in-ToSpell.is ∙ c.readiness.ensures)).0
+
+pub returns-in-Refused : goal.returns-in-Refused
+returns-in-Refused c = answer-1-5 _ c.args.block.now c.args.list.now c.args.out.now _ _ _ (sym c.in-Refused.is ∙ c.readiness.ensures) c.refuse.ensures
+
+pub returns-in-AsItStands : goal.returns-in-AsItStands
+returns-in-AsItStands c = answer-plain _ c.args.block.now c.args.list.now c.args.out.now _ _ (sym c.in-AsItStands.is ∙ c.readiness.ensures) c.report_by.ensures
+
+pub returns-in-ToSpell : goal.returns-in-ToSpell
+returns-in-ToSpell c = answer-listed _ c.args.block.now c.args.list.now c.args.out.now _ _ (sym c.in-ToSpell.is ∙ c.readiness.ensures) c.report_spelled.ensures

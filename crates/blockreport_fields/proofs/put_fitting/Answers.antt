@@ -1,0 +1,10 @@
+-- `blockreport_fields::put_fitting` meets its contract: with too little room nothing is written, and else as much as there is room for is all of it.
+use borrow.Author.Rules.{rules}
+use Rattle.blockreport_fields.proofs.Bodies.{copy-out, copy-put}
+use Rattle.blockreport_fields.proofs.put_fitting.Goals as goal
+
+pub returns-then-text-rest : goal.returns-then-text-rest
+returns-then-text-rest c = copy-out _ _ _ _ c.rest.ensures c.if-text-rest.true _ c.sum.ensures
+
+pub returns : goal.returns
+returns c = copy-put _ _ _ _ c.rest.ensures c.if-text-rest.false _ _ c.put_part.ensures

@@ -1,0 +1,7 @@
+-- `lexis_space::space_end` meets its contract: where the first byte starts no space there is none.
+use Rattle.lexis_space.proofs.Loops.{space-shut}
+use borrow.Author.Rules.{rules}
+use Rattle.lexis_space.proofs.space_end.Goals as goal
+
+pub returns : goal.returns
+returns c = search space-shut

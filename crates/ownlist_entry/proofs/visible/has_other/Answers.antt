@@ -1,0 +1,18 @@
+use Prim.Native.Nat.{◌+◌, ◌-◌, ◌≤◌}
+use native.Mathlib.Omega.{arith}
+use mathlib.Core.Path.{◌≡◌}
+use mathlib.Core.Bool.{false}
+use borrow.Author.Rules.{rules}
+use Rattle.base_readers.specs.Places.{Reaches}
+use Rattle.base_readers.proofs.Loops.{piece-none, piece-all, hits-on}
+use Rattle.ownlist_rules.specs.OwnList.{visible}
+use Rattle.ownlist_entry.proofs.visible.has_other.Goals as goal
+
+pub loop-j-init : goal.loop-j-init
+loop-j-init c = (omega arith, λ e. piece-none _ _ _)
+
+pub loop-j-preserved : goal.loop-j-preserved
+loop-j-preserved c = (omega arith, hits-on _ _ _ _ _ _ c.loop-j.invariant.1 (omega arith) c.is_other-hit.ensures)
+
+pub returns : goal.returns
+returns c = λ e. piece-all _ _ _ _ _ (c.loop-j.invariant.1 e) (omega arith)

@@ -1,0 +1,20 @@
+use Prim.Native.Nat.{◌-◌}
+use native.Mathlib.Omega.{arith}
+use borrow.Author.Rules.{rules}
+use lib.ListN.{length}
+use Rattle.base_readers.specs.Places.{Reaches}
+use Rattle.base_readers.proofs.Loops.{reaches-start, run_on, run-off, run_out}
+use Rattle.ownlist_rules.specs.OwnList.{visible}
+use Rattle.ownlist_entry.proofs.visible.visible_near.Goals as goal
+
+pub loop-i-init : goal.loop-i-init
+loop-i-init c = reaches-start
+
+pub loop-i-preserved : goal.loop-i-preserved
+loop-i-preserved c = search run_on
+
+pub returns-else-is_visible : goal.returns-else-is_visible
+returns-else-is_visible c = search run-off
+
+pub returns : goal.returns
+returns c = search run_out

@@ -1,0 +1,19 @@
+use Prim.Native.Nat.{◌+◌, ◌-◌, ◌≤◌}
+use native.Mathlib.Omega.{arith}
+use mathlib.Core.Path.{◌≡◌}
+use mathlib.Core.Bool.{false}
+use borrow.Author.Rules.{rules}
+use Rattle.base_readers.specs.Places.{Reaches}
+use Rattle.base_readers.proofs.Loops.{piece-none, piece-all}
+use Rattle.base_readers.specs.Lines.{until_feed}
+use Rattle.ownlist_lines.proofs.Feeds.{feed-piece}
+use Rattle.ownlist_lines.proofs.ends.has_feed.Goals as goal
+
+pub loop-j-init : goal.loop-j-init
+loop-j-init c = (omega arith, λ e. piece-none _ _ _)
+
+pub loop-j-preserved : goal.loop-j-preserved
+loop-j-preserved c = (omega arith, feed-piece _ _ _ _ _ c.loop-j.invariant.1 (omega arith) c.is_feed-hit.ensures)
+
+pub returns : goal.returns
+returns c = λ e. piece-all _ _ _ _ _ (c.loop-j.invariant.1 e) (omega arith)

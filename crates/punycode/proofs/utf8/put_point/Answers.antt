@@ -1,0 +1,16 @@
+-- `punycode::utf8::put_point` meets its contract: one to four bytes, by the cases of the definition.
+use Rattle.punycode.proofs.Writing.{point-one, point-two, point-three, point-four}
+use borrow.Author.Rules.{rules}
+use Rattle.punycode.proofs.utf8.put_point.Goals as goal
+
+pub returns-then-x-lt128 : goal.returns-then-x-lt128
+returns-then-x-lt128 c = point-one _ _ _ c.if-x-lt128.true _ c.store.ensures
+
+pub returns-then-x-lt2048 : goal.returns-then-x-lt2048
+returns-then-x-lt2048 c = search point-two
+
+pub returns-then-x-lt65536 : goal.returns-then-x-lt65536
+returns-then-x-lt65536 c = search point-three
+
+pub returns : goal.returns
+returns c = point-four _ _ _ c.if-x-lt128.false c.if-x-lt2048.false c.if-x-lt65536.false _ _ _ _ c.store-2.ensures c.store-3.ensures c.store-4.ensures c.store-5.ensures

@@ -1,0 +1,13 @@
+-- `report::results::put_results` meets its contract: each turn reads one result more, and its lines stay where it is understood.
+use native.Mathlib.Omega.{arith}
+use Prim.Native.Nat.{◌-◌, ◌≤◌, ◌<◌}
+use lib.ListN.{length}
+use borrow.Author.Rules.{rules}
+use Rattle.report.proofs.Passes.{Passing, passing-start, passing-room, passing-further, passing-shown, passing-ignored, passed, passed-long}
+use Rattle.report.proofs.results.put_results.Given as goal
+
+abbrev pub invariant-loop-end : goal.invariant-loop-end
+invariant-loop-end l = Passing l.s l.at l.initial.out l.to l.out l.i l.a l.n l.ignored
+
+abbrev pub decreases-loop-end : goal.decreases-loop-end
+decreases-loop-end l = length l.s - l.i

@@ -1,0 +1,20 @@
+use Prim.Native.Nat.{◌+◌, ◌-◌, ◌≤◌}
+use native.Mathlib.Omega.{arith}
+use mathlib.Core.Path.{◌≡◌, sym, ◌∙◌}
+use mathlib.Core.Bool.{false}
+use borrow.Author.Rules.{rules}
+use borrow.Author.Tests.{not-false}
+use Rattle.base_readers.specs.Readers.{run}
+use Rattle.base_readers.specs.Places.{Reaches}
+use Rattle.base_readers.proofs.Loops.{piece-none, piece-all, hits-on}
+use Rattle.report_escape.specs.Internal.{verbatim}
+use Rattle.report_escape.proofs.has_stop.Goals as goal
+
+pub loop-j-init : goal.loop-j-init
+loop-j-init c = (omega arith, λ e. piece-none _ _ _)
+
+pub loop-j-preserved : goal.loop-j-preserved
+loop-j-preserved c = (omega arith, hits-on _ _ _ _ _ _ c.loop-j.invariant.1 (omega arith) (λ f. sym c.is_verbatim.ensures ∙ not-false _ f))
+
+pub returns : goal.returns
+returns c = λ e. piece-all _ _ _ _ _ (c.loop-j.invariant.1 e) (omega arith)

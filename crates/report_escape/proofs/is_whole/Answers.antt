@@ -1,0 +1,25 @@
+use Prim.Native.Nat.{◌-◌, ◌≤◌}
+use native.Mathlib.Omega.{arith}
+use lib.ListN.{length}
+use Rattle.base_sequences.proofs.Booleans.{no_true}
+use Rattle.base_readers.specs.Readers.{run}
+use Rattle.base_readers.specs.Places.{Reaches}
+use Rattle.base_readers.proofs.Loops.{reaches-start, text-on}
+use Rattle.report_escape.specs.Internal.{verbatim}
+use Rattle.report_escape.proofs.Escapes.{whole-text}
+use Rattle.report_escape.proofs.is_whole.Goals as goal
+
+pub returns-then-n-lt8 : goal.returns-then-n-lt8
+returns-then-n-lt8 c = λ e. absurd (no_true e)
+
+pub loop-i-init : goal.loop-i-init
+loop-i-init c = (reaches-start, omega arith)
+
+pub returns-then-has_stop : goal.returns-then-has_stop
+returns-then-has_stop c = λ e. absurd (no_true e)
+
+pub loop-i-preserved : goal.loop-i-preserved
+loop-i-preserved c = (text-on verbatim _ _ _ _ _ c.loop-i.invariant.0 c.has_stop.ensures c.if-has_stop.false, omega arith)
+
+pub returns : goal.returns
+returns c = whole-text _ _ c.loop-i.invariant.0 (omega arith) (omega arith) c.loop-i.invariant.1 _ c.has_stop-2.ensures

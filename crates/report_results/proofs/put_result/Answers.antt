@@ -1,0 +1,13 @@
+-- `report_results::put_result` meets its contract: the method and what stands behind it are the result.
+use mathlib.Core.Path.{◌≡◌, sym, ◌∙◌}
+use borrow.Author.Rules.{rules}
+use Rattle.result_method.specs.declared.Method.TheVariants.{Read}
+use Rattle.result_method.specs.Methods.{method_at}
+use Rattle.report_results.proofs.Turns.{turn-missing, lines-missing, lines-read, turn-read}
+use Rattle.report_results.proofs.put_result.Goals as goal
+
+pub returns-in-Read : goal.returns-in-Read
+returns-in-Read c = record { value = turn-read _ _ _ _ _ _ _ (sym c.in-Read.is ∙ c.method_at.ensures) _ _ _ _ _ (search rules) c.put_method-n.ensures _ c.put_details-d.ensures _ c.knows_method-known.ensures _ c.both.ensures; out_after = lines-read _ _ _ _ _ _ _ (sym c.in-Read.is ∙ c.method_at.ensures) _ _ _ _ _ (search rules) c.put_method-n.ensures _ c.put_details-d.ensures }
+
+pub returns-in-Missing : goal.returns-in-Missing
+returns-in-Missing c = record { value = turn-missing _ _ (sym c.in-Missing.is ∙ c.method_at.ensures) _; out_after = lines-missing _ _ (sym c.in-Missing.is ∙ c.method_at.ensures) _ _ }

@@ -1,0 +1,27 @@
+-- `write::write` meets its contract: each way out has its law in `Ends`.
+use Rattle.write.proofs.Ends.{answer-11, answer-1, answer-6, again-fits, answer-copied, answer-written}
+use mathlib.Core.Path.{sym}
+use lib.Seq.{length-take-le}
+use borrow.Author.Rules.{rules}
+use Rattle.write.proofs.write.Goals as goal
+
+pub returns-then-first-eq-NO_SUCH_REPORT : goal.returns-then-first-eq-NO_SUCH_REPORT
+returns-then-first-eq-NO_SUCH_REPORT c = answer-11 _ _ _ _ _ c.put_lines-first.ensures c.if-first-eq-NO_SUCH_REPORT.true
+
+pub returns-then-first-gt-MOST : goal.returns-then-first-gt-MOST
+returns-then-first-gt-MOST c = answer-1 c.args.lines.now c.args.out.now _ _ _ c.put_lines-first.ensures c.if-first-eq-NO_SUCH_REPORT.false c.if-first-gt-MOST.true
+
+pub slice_bounds-put_lines-end-in-Again : goal.slice_bounds-put_lines-end-in-Again
+slice_bounds-put_lines-end-in-Again c = again-fits c.args.lines.now c.args.out.now _ _ _ c.put_lines-first.ensures c.if-first-eq-NO_SUCH_REPORT.false c.if-first-gt-MOST.false _ _ c.copy_first.ensures.value c.copy_first.ensures.out_after c.in-Again.is
+
+pub slice_bounds-put_lines-end-in-Again-2 : goal.slice_bounds-put_lines-end-in-Again-2
+slice_bounds-put_lines-end-in-Again-2 c = sym (length-take-le _ _ (again-fits c.args.lines.now c.args.out.now _ _ _ c.put_lines-first.ensures c.if-first-eq-NO_SUCH_REPORT.false c.if-first-gt-MOST.false _ _ c.copy_first.ensures.value c.copy_first.ensures.out_after c.in-Again.is))
+
+pub returns-in-Short : goal.returns-in-Short
+returns-in-Short c = answer-6 c.args.lines.now c.args.out.now _ _ _ c.put_lines-first.ensures c.if-first-eq-NO_SUCH_REPORT.false c.if-first-gt-MOST.false _ _ c.copy_first.ensures.value c.copy_first.ensures.out_after c.in-Short.is
+
+pub returns-in-Again : goal.returns-in-Again
+returns-in-Again c = answer-written c.args.lines.now c.args.out.now _ _ _ c.put_lines-first.ensures c.if-first-eq-NO_SUCH_REPORT.false c.if-first-gt-MOST.false _ _ c.copy_first.ensures.value c.copy_first.ensures.out_after c.in-Again.is _ _ c.put_lines.ensures
+
+pub returns-in-Done : goal.returns-in-Done
+returns-in-Done c = answer-copied c.args.lines.now c.args.out.now _ _ _ c.put_lines-first.ensures c.if-first-eq-NO_SUCH_REPORT.false c.if-first-gt-MOST.false _ _ c.copy_first.ensures.value c.copy_first.ensures.out_after c.in-Done.is

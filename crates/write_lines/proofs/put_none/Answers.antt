@@ -1,0 +1,13 @@
+-- `write_lines::put_none` meets its contract: each way out has its law in `Lines`.
+use Rattle.write_lines.proofs.Lines.{none-unlike, none-fits, none-put}
+use borrow.Author.Rules.{rules}
+use Rattle.write_lines.proofs.put_none.Goals as goal
+
+pub overflow_add-result : goal.overflow_add-result
+overflow_add-result c = search none-fits
+
+pub returns-then-is_literal : goal.returns-then-is_literal
+returns-then-is_literal c = search none-put
+
+pub returns : goal.returns
+returns c = search none-unlike
