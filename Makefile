@@ -27,7 +27,7 @@ MAN = $(DESTDIR)$(MANDIR)
 
 # The command builds its program where it is used first; VERSION, one line of visible bytes, serves as its list.
 all:
-	LC_ALL=C rt staticlib orbendash
+	tools/static-library
 	bin/orbendash strip VERSION < /dev/null
 
 install:

@@ -1,6 +1,6 @@
-// The face for hosts: functions for C and for Rust over the library's calls, with the same answers.
+// The face for hosts: functions over the library's calls, with the same answers. `orbendash_c` exports each for C and for Rust.
 //
-// A slice is a pointer and a length. The structs that are returned, and how they are made from answers, are those of `host_structs` and `host_whose_struct`.
+// The structs that are returned, and how they are made from answers, are those of `host_structs` and `host_whose_struct`.
 #![tactic(auto)]
 
 ghost use Rattle.std.specs.Prelude.{◌≡◌, length};
@@ -23,8 +23,7 @@ use host_structs::{CopyFace, MarkFace, NextFace, ReportFace, WriteFace};
 use host_whose_struct::WhoseFace;
 
 // Which fields of a block go, the Authentication-Results fields that speak in our own name or in none: a byte for each field (`strip::mark`).
-#[unsafe(no_mangle)]
-pub extern "C" fn orbendash_mark(s: &[u8], list: &[u8], out: &mut [u8]) -> MarkFace
+pub fn orbendash_mark(s: &[u8], list: &[u8], out: &mut [u8]) -> MarkFace
     ensures value { result ≡ mark_face (mark s.now list.now (length out.old)) }
     ensures out_after { out.new ≡ marking.leaves (mark s.now list.now (length out.old)) out.old }
 {
@@ -32,8 +31,7 @@ pub extern "C" fn orbendash_mark(s: &[u8], list: &[u8], out: &mut [u8]) -> MarkF
 }
 
 // The block without these fields, given that answer (`strip::copy`).
-#[unsafe(no_mangle)]
-pub extern "C" fn orbendash_copy(s: &[u8], list: &[u8], marks: &[u8], out: &mut [u8]) -> CopyFace
+pub fn orbendash_copy(s: &[u8], list: &[u8], marks: &[u8], out: &mut [u8]) -> CopyFace
     ensures value { result ≡ copy_face (copy s.now list.now marks.now (length out.old)) }
     ensures out_after { out.new ≡ copying.leaves (copy s.now list.now marks.now (length out.old)) out.old }
 {
@@ -41,8 +39,7 @@ pub extern "C" fn orbendash_copy(s: &[u8], list: &[u8], marks: &[u8], out: &mut 
 }
 
 // The report of a field body (`report::report`).
-#[unsafe(no_mangle)]
-pub extern "C" fn orbendash_report(body: &[u8], out: &mut [u8]) -> ReportFace
+pub fn orbendash_report(body: &[u8], out: &mut [u8]) -> ReportFace
     ensures value { result ≡ report_face (report body.now (length out.old)) }
     ensures out_after { out.new ≡ reporting.leaves (report body.now (length out.old)) out.old }
 {
@@ -50,8 +47,7 @@ pub extern "C" fn orbendash_report(body: &[u8], out: &mut [u8]) -> ReportFace
 }
 
 // The body that report lines say (`write::write`).
-#[unsafe(no_mangle)]
-pub extern "C" fn orbendash_write(lines: &[u8], out: &mut [u8]) -> WriteFace
+pub fn orbendash_write(lines: &[u8], out: &mut [u8]) -> WriteFace
     ensures value { result ≡ write_face (compose lines.now (length out.old)) }
     ensures out_after { out.new ≡ writing.leaves (compose lines.now (length out.old)) out.old }
 {
@@ -59,32 +55,28 @@ pub extern "C" fn orbendash_write(lines: &[u8], out: &mut [u8]) -> WriteFace
 }
 
 // Whether the ARC chain of a block is built, and what it says by the verdicts (`arc::judge`).
-#[unsafe(no_mangle)]
-pub extern "C" fn orbendash_judge(s: &[u8], verdicts: &[u8]) -> JudgeFace
+pub fn orbendash_judge(s: &[u8], verdicts: &[u8]) -> JudgeFace
     ensures { result ≡ judge_face (judge s.now verdicts.now) }
 {
     host_structs::judge::judge_face(arc::judge(s, verdicts))
 }
 
 // A step of the walking reader from a place: a field, or the last answer (`block_walk::field_from`).
-#[unsafe(no_mangle)]
-pub extern "C" fn orbendash_next_field(s: &[u8], place: usize) -> NextFace
+pub fn orbendash_next_field(s: &[u8], place: usize) -> NextFace
     ensures { result ≡ next_face (step_from s.now place) }
 {
     host_structs::next_face(block_walk::field_from(s, place))
 }
 
 // Whose the identifier of a field body is: ours, another's, or unreadable (`host_whose::whose`). 1 where the body is too long, then 5 where the list is bad.
-#[unsafe(no_mangle)]
-pub extern "C" fn orbendash_whose(list: &[u8], body: &[u8]) -> WhoseFace
+pub fn orbendash_whose(list: &[u8], body: &[u8]) -> WhoseFace
     ensures { result ≡ whose list.now body.now }
 {
     host_whose::whose(list, body)
 }
 
 // The library's version as one number; that of the header it was built with is ORBENDASH_VERSION_NUMBER.
-#[unsafe(no_mangle)]
-pub extern "C" fn orbendash_version() -> u32
+pub fn orbendash_version() -> u32
     ensures { result ≡ version_number }
 {
     host_structs::version()

@@ -1,5 +1,5 @@
 //! Finds the static library and tells cargo to link it: in `ORBENDASH_LIB_DIR`, or else where
-//! `rt staticlib orbendash` puts it in the repository.
+//! `make` (or `tools/static-library`) puts it in the repository.
 
 use std::env;
 use std::path::PathBuf;
@@ -16,7 +16,7 @@ fn main() {
     println!("cargo:rerun-if-changed={}", library.display());
     if !library.is_file() {
         eprintln!("The static library is missing: {}", library.display());
-        eprintln!("Run `rt staticlib orbendash` at the repository's root,");
+        eprintln!("Run `make` or `tools/static-library` at the repository's root,");
         eprintln!("or set ORBENDASH_LIB_DIR to the directory that holds liborbendash.a.");
         exit(1);
     }
