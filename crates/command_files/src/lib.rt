@@ -16,7 +16,8 @@
 #![tactic(auto)]
 
 ghost use Rattle.std.specs.Prelude.{◌≡◌, length};
-ghost use Rattle.command_files.specs.Transfers.{turn_of, IsPrefixLen, IsWithin, Taken, Gone, Found};
+ghost use Rattle.std.specs.Io.{WritesAtMost};
+ghost use Rattle.command_files.specs.Transfers.{turn_of, Answered, IsPrefixLen, Taken, Reads, Gone, Writes, Found};
 
 use std::env::FillError;
 use std::fs::File;
@@ -92,17 +93,22 @@ fn number_of(error: &io::Error) -> i32 {
 // Tells what came of a call of std's read or write, which was handed these bytes.
 #[tactic(auto, unfolding(crate::specs::Transfers::turn_of, crate::specs::Transfers::interrupted))]
 fn after_answer(answer: io::Result<usize>, buf: &[u8]) -> Turn
-    ensures { IsWithin result (length buf.now) }
+    requires { WritesAtMost answer buf.now }
+    ensures { Answered answer result }
 {
     match answer {
-        Ok(moved) => after_call(isize::try_from(moved).unwrap_or(isize::MAX), 0, buf),
+        Ok(moved) => match isize::try_from(moved) {
+            Ok(got) => after_call(got, 0, buf),
+            Err(_) => Turn::Moved(moved),
+        },
         Err(error) => after_call(-1, number_of(&error), buf),
     }
 }
 
 // Reads until the buffer is full or the input ends. A read that fails is told, wherever it happens.
 pub fn read_whole<R: Read>(file: &mut R, buf: &mut [u8]) -> Input
-    ensures { Taken result buf.new }
+    ensures taken { Taken result buf.new }
+    ensures bytes { Reads (R.remaining file.old) (R.remaining file.new) result buf.new }
 {
     let mut done: usize = 0;
     for _ in 0..CALLS {
@@ -138,7 +144,8 @@ pub fn read_whole<R: Read>(file: &mut R, buf: &mut [u8]) -> Input
 
 // Writes a text whole, or answers false; then some of it may have been written.
 pub fn write_whole<W: Write>(file: &mut W, text: &[u8]) -> bool
-    ensures { Gone text.now result }
+    ensures gone { Gone text.now result }
+    ensures bytes { Writes (W.contents file.old) (W.contents file.new) text.now result }
 {
     let mut done: usize = 0;
     for _ in 0..CALLS {
