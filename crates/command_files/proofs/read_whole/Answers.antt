@@ -7,6 +7,6 @@ use Rattle.command_files.proofs.read_whole.Goals.{in-Moved, in-Interrupted}
 pub loop-preserved : goal.loop-preserved
 loop-preserved g c =
     elim c.match-after_answer.branch [
-      | in-Moved w ↦ (search rules, search rules, gave _ _ _ _ _ _ _ _ _ c.loop.invariant.0 c.loop.invariant.2 c.read-answer.ensures.bytes w.in-Moved.n w.in-Moved.ensures c.read-answer.ensures.bound w.done-is)
-      | in-Interrupted w ↦ (search rules, search rules, gave_none _ _ _ _ _ _ _ _ _ c.loop.invariant.0 c.loop.invariant.2 c.read-answer.ensures.bytes w.in-Interrupted.ensures w.done-is)
+      | in-Moved w ↦ (search rules, search rules, gave _ _ _ _ _ _ _ _ _ c.loop.invariant.0 c.loop.invariant.2 c.read-answer.ensures.bytes w.in-Moved.n w.in-Moved.ensures.answered c.read-answer.ensures.bound w.done-is)
+      | in-Interrupted w ↦ (search rules, search rules, gave_none _ _ _ _ _ _ _ _ _ c.loop.invariant.0 c.loop.invariant.2 c.read-answer.ensures.bytes w.in-Interrupted.ensures.answered w.done-is)
     ]

@@ -7,6 +7,6 @@ use Rattle.command_files.proofs.write_whole.Goals.{in-Moved, in-Interrupted}
 pub loop-preserved : goal.loop-preserved
 loop-preserved g c =
     elim c.match-after_answer.branch [
-      | in-Moved w ↦ (search rules, search rules, took _ _ _ _ _ _ _ _ c.loop.invariant.2 c.write-answer.ensures.bytes w.in-Moved.n w.in-Moved.ensures (search rules) w.done-is)
-      | in-Interrupted w ↦ (search rules, search rules, took_none _ _ _ _ _ _ _ _ c.loop.invariant.2 c.write-answer.ensures.bytes w.in-Interrupted.ensures w.done-is)
+      | in-Moved w ↦ (search rules, search rules, took _ _ _ _ _ _ _ _ c.loop.invariant.2 c.write-answer.ensures.bytes w.in-Moved.n w.in-Moved.ensures.answered (search rules) w.done-is)
+      | in-Interrupted w ↦ (search rules, search rules, took_none _ _ _ _ _ _ _ _ c.loop.invariant.2 c.write-answer.ensures.bytes w.in-Interrupted.ensures.answered w.done-is)
     ]
