@@ -1,15 +1,15 @@
 -- The extent of a field from a place inside one of its lines: past a byte of the line's text, past a CRLF with a further line behind it, and
 -- at the last CRLF; and where a line lacks its CRLF.
 use Prim.Native.Char.{code}
-use Prim.Native.Nat.{ℕ, zero, suc, ◌+◌, ◌≤◌}
+use Prim.Native.Nat.{ℕ, zero, suc, ◌+◌}
 use native.Mathlib.Omega.{arith}
-use mathlib.Core.Path.{◌≡◌, refl, sym, ◌∙◌}
-use mathlib.Core.Bool.{Bool, true, false, cond, ◌&&◌}
+use mathlib.Core.Path.{◌≡◌, refl}
+use mathlib.Core.Bool.{Bool, true, false, ◌&&◌}
 use mathlib.Core.List.{List, [], ◌∷◌}
 use lib.Dec.{eqb}
-use lib.ListN.{length, get_or, drop}
+use lib.ListN.{get_or}
 use Rattle.base_readers.specs.Texts.{one_of}
-use Rattle.base_readers.specs.Readers.{run, many}
+use Rattle.base_readers.specs.Readers.{run}
 use Rattle.base_readers.proofs.Readers.{run_more, many_more, many-none}
 use Rattle.lexis_rules.specs.declared.Class.TheVariants.{Blank}
 use Rattle.lexis_rules.specs.Bytes.{in_class}

@@ -1,6 +1,6 @@
 -- The fields of a block at worked examples, computed.
 use Prim.Native.Nat.{ℕ}
-use mathlib.Core.Path.{◌≡◌, refl}
+use mathlib.Core.Path.{refl}
 use mathlib.Core.List.{List, [], ◌∷◌, map}
 use lib.ListN.{length}
 use Rattle.base_readers.specs.Texts.{bytes, within, one_of, same}

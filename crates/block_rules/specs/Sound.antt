@@ -1,5 +1,5 @@
 -- What it is for a field to stand by itself.
-use Rattle.std.specs.Prelude.{ℕ, ◌+◌, ◌≤◌, ◌<◌, ◌≡◌, true, false, List, [], ◌∷◌, ◌++◌, length, get_or}
+use Rattle.std.specs.Prelude.{ℕ, ◌+◌, ◌≤◌, ◌<◌, ◌≡◌, false, List, [], ◌∷◌, ◌++◌, length, get_or}
 use Rattle.base_readers.specs.Walks.{item}
 use Rattle.lexis_rules.specs.declared.Class.TheVariants.{Blank}
 use Rattle.lexis_rules.specs.Bytes.{in_class}

@@ -2,7 +2,7 @@
 use Rattle.std.specs.Prelude.{ℕ, List}
 use Rattle.std.proofs.Math.Option.{Option, none, some}
 use Rattle.base_readers.specs.Texts.{bytes}
-use Rattle.base_readers.specs.Parsers.{Parser, ◌>>=◌, ◌>>◌}
+use Rattle.base_readers.specs.Parsers.{Parser, ◌>>◌}
 use Rattle.lexis_rules.specs.Words.{gap, read_digits}
 
 -- After space that isn't empty, a digit run is the header version

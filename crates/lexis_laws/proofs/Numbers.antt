@@ -1,16 +1,15 @@
 -- A digit run's number is 1 exactly where the digits that count are the digit 1 alone: by induction on the run, whose number no further
 -- digit makes smaller.
-use Prim.Native.Char.{code}
-use Prim.Native.Nat.{ℕ, zero, suc, ◌+◌, ◌-◌, ◌*◌, ◌≤◌, ◌<◌, zero-le, suc-le-suc}
+use Prim.Native.Nat.{ℕ, zero, suc, ◌+◌, ◌-◌, ◌*◌, ◌≤◌, zero-le}
 use native.Mathlib.Omega.{arith}
 use mathlib.Core.Path.{◌≡◌, refl, sym, ap, ◌∙◌}
 use mathlib.Core.Bool.{Bool, true, false, cond, ◌&&◌}
 use mathlib.Core.List.{List, [], ◌∷◌}
 use lib.Dec.{eqb, leb}
-use lib.ListN.{length, get_or, take, drop}
-use lib.Seq.{get_or-drop, take-take}
+use lib.ListN.{get_or, take, drop}
+use lib.Seq.{take-take}
 use borrow.Author.Tests.{eq-eqb, ne_eqb, eqb-true, eqb-false, leb-true}
-use Rattle.base_sequences.proofs.Booleans.{both, and_left}
+use Rattle.base_sequences.proofs.Booleans.{and_left}
 use Rattle.base_sequences.proofs.Lists.{drop-take}
 use Rattle.base_readers.specs.Texts.{within}
 use Rattle.base_readers.specs.Readers.{run}

@@ -1,21 +1,21 @@
 -- The pieces take no more than there is, and a comment is its brackets around its content.
 use Prim.Native.Char.{code}
-use Prim.Native.Nat.{ℕ, zero, suc, ◌+◌, ◌-◌, ◌≤◌, ◌<◌, zero-le}
+use Prim.Native.Nat.{ℕ, zero, suc, ◌+◌, ◌-◌, ◌≤◌, zero-le}
 use native.Mathlib.Omega.{arith}
-use mathlib.Core.Path.{◌≡◌, refl, sym, ap, ◌∙◌}
-use mathlib.Core.Bool.{Bool, true, false, ◌&&◌}
-use mathlib.Core.List.{List, [], ◌∷◌, ◌++◌}
+use mathlib.Core.Path.{◌≡◌, refl, ◌∙◌}
+use mathlib.Core.Bool.{true, ◌&&◌}
+use mathlib.Core.List.{List, ◌∷◌, ◌++◌}
 use lib.Dec.{eqb}
-use lib.ListN.{length, get_or, take, drop}
+use lib.ListN.{get_or, take, drop}
 use lib.Seq.{drop-drop}
 use Rattle.base_sequences.proofs.Booleans.{and_right, cond-le}
-use Rattle.base_readers.specs.Readers.{Reader, run, many, choose, between, lasts}
+use Rattle.base_readers.specs.Readers.{run, choose, between, lasts}
 use Rattle.base_readers.specs.Locality.{Fits}
 use Rattle.base_readers.proofs.Readers.{there, run_fits, many-fits, lasts-run, choose-fits, between-fits, passing-fits}
 use Rattle.lexis_rules.specs.declared.Class.{Class}
 use Rattle.lexis_rules.specs.declared.Class.TheVariants.{Blank, Quoted, Comment, Escaped}
 use Rattle.lexis_rules.specs.Bytes.{in_class}
-use Rattle.lexis_rules.specs.Pieces.{pair, fold, escapes, item, comment, content, space, bare_space, token, quoted, value, keyword, digits}
+use Rattle.lexis_rules.specs.Pieces.{pair, fold, escapes, item, comment, content, space, bare_space, token, quoted, value, keyword}
 use Rattle.lexis_laws.proofs.Bytes.{class-zero}
 
 pub item-fits : (c : Class) → Fits (item c)

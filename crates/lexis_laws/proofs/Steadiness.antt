@@ -1,20 +1,20 @@
 -- The pieces as parsers: what each takes is there, what comes first where it succeeds, and what may follow it without changing it. These
 -- are what the steadiness of larger parts is put together from. Each law is one of `base_readers` at the piece's reader.
 use Prim.Native.Char.{code}
-use Prim.Native.Nat.{ℕ, zero, suc}
+use Prim.Native.Nat.{ℕ, suc}
 use native.Mathlib.Omega.{arith}
-use mathlib.Core.Path.{◌≡◌, refl, sym, ap, ◌∙◌}
+use mathlib.Core.Path.{◌≡◌, refl, sym, ◌∙◌}
 use mathlib.Core.Bool.{Bool, true, false, ◌||◌}
-use mathlib.Core.List.{List, [], ◌∷◌}
+use mathlib.Core.List.{List}
 use lib.Dec.{eqb}
 use lib.ListN.{get_or}
 use Rattle.base_sequences.proofs.Booleans.{or_left, or_right}
-use Rattle.base_readers.specs.Texts.{outside, same, starts, follows}
-use Rattle.base_readers.specs.Readers.{run, choose}
-use Rattle.base_readers.specs.Parsers.{Parser, ◌>>=◌, ◌>>◌, give, when, skipping, text, pass}
-use Rattle.base_readers.specs.Locality.{Within, Any, Ends, Starts, Follows, Local, Steady, Opens}
+use Rattle.base_readers.specs.Texts.{same, starts}
+use Rattle.base_readers.specs.Readers.{run}
+use Rattle.base_readers.specs.Parsers.{◌>>=◌, give, when, text}
+use Rattle.base_readers.specs.Locality.{Within, Ends, Starts, Steady, Opens}
 use Rattle.base_readers.proofs.Texts.{starts_first, starts-not, starts-weaker}
-use Rattle.base_readers.proofs.Readers.{run_fits, run-first, choose_yes, choose_no, between_first, passing-inv}
+use Rattle.base_readers.proofs.Readers.{run_fits, run-first, choose_no, passing-inv}
 use Rattle.base_readers.proofs.Sequencing.{when-inv}
 use Rattle.base_readers.proofs.Bounds.{bind-within, skipping-within, pass-within, text-within, give-within, when-within}
 use Rattle.base_readers.proofs.Openings.{bind-opens, text-opens, pass-opens}

@@ -1,20 +1,20 @@
 -- "Longest run of letters, digits and hyphens that doesn't end in a hyphen" can also be read as the longest part of the run that ends in
 -- no hyphen. The two readings differ only where a hyphen comes next, and no rule lets one follow a keyword. By induction on the run.
-use Prim.Native.Nat.{ℕ, zero, suc, ◌+◌, ◌-◌, ◌≤◌, ◌<◌, zero-le, suc-le-suc}
+use Prim.Native.Nat.{ℕ, zero, suc, ◌+◌, ◌-◌, ◌≤◌, zero-le}
 use native.Mathlib.Omega.{arith}
-use mathlib.Core.Path.{◌≡◌, refl, sym, ap, ◌∙◌}
+use mathlib.Core.Path.{◌≡◌, refl, sym, ◌∙◌}
 use mathlib.Core.Bool.{Bool, true, false, not}
 use mathlib.Core.List.{List, [], ◌∷◌}
 use lib.Dec.{eqb}
 use lib.ListN.{length, drop, take, get_or}
 use lib.Seq.{get_or-take, length-take-le, get_or-drop}
 use borrow.Author.Tests.{not-true, eqb-true}
-use Rattle.base_sequences.proofs.Booleans.{both, no_true, true-not}
-use Rattle.base_readers.specs.Texts.{within, one_of, outside, follows}
+use Rattle.base_sequences.proofs.Booleans.{both, true-not}
+use Rattle.base_readers.specs.Texts.{within, outside}
 use Rattle.base_readers.specs.Readers.{Reader, run}
 use Rattle.base_readers.specs.Locality.{Follows}
 use Rattle.base_readers.proofs.Texts.{follows-not, starts_first}
-use Rattle.base_readers.proofs.Readers.{run_more, run_none, run_ends, run_fits, passing-yes, passing-inv}
+use Rattle.base_readers.proofs.Readers.{run_more, run_ends, run_fits, passing-yes, passing-inv}
 use Rattle.lexis_rules.specs.declared.Class.TheVariants.{Keyword}
 use Rattle.lexis_rules.specs.Bytes.{in_class, letter}
 use Rattle.lexis_rules.specs.Pieces.{unhyphened, keyword}

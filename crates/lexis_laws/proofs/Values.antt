@@ -1,7 +1,6 @@
 -- A value at a place: a quoted string where the first byte is a quote, else a token; and its text is the one that the parser of values
 -- yields, since the text of a quoted string hangs on nothing behind it.
-use Prim.Native.Char.{code}
-use Prim.Native.Nat.{ℕ, zero, suc, ◌+◌, ◌-◌, ◌≤◌, ◌<◌}
+use Prim.Native.Nat.{ℕ, zero, suc, ◌+◌, ◌-◌, ◌<◌}
 use native.Mathlib.Nat.{add_comm}
 use native.Mathlib.Omega.{arith}
 use mathlib.Core.Path.{◌≡◌, refl, sym, ap, ◌∙◌}
@@ -13,15 +12,14 @@ use lib.Seq.{length-take-le, get_or-drop}
 use borrow.Author.Tests.{eqb-true}
 use Rattle.base_sequences.proofs.Booleans.{no_true}
 use Rattle.base_sequences.proofs.Lists.{get_or-behind, drop-take}
-use Rattle.base_readers.specs.Readers.{Reader, many, choose, lasts}
-use Rattle.base_readers.specs.Parsers.{Got, nothing, got, ◌>>=◌, give, text}
+use Rattle.base_readers.specs.Readers.{Reader, many, lasts}
+use Rattle.base_readers.specs.Parsers.{nothing, got, give, text}
 use Rattle.base_readers.specs.Places.{from}
 use Rattle.base_readers.specs.Locality.{Ends}
 use Rattle.base_readers.proofs.Readers.{choose_yes, choose_no, between_is, between_first}
 use Rattle.base_readers.proofs.Local.{lasts-at}
 use Rattle.base_readers.proofs.Places.{goes_on, stops, gives, text_at, text-none}
 use Rattle.lexis_rules.specs.declared.Class.TheVariants as class
-use Rattle.lexis_rules.specs.declared.Value.{Value}
 use Rattle.lexis_rules.specs.declared.Value.TheVariants.{Token, Quoted, Nothing}
 use Rattle.lexis_rules.specs.Pieces.{item, token, quoted, value}
 use Rattle.lexis_rules.specs.Words.{quoted_text, value_text, read_value}

@@ -12,7 +12,7 @@ use lib.Dec.{eqb, leb}
 use lib.ListN.{length, get_or, take, drop, length-drop}
 use lib.Seq.{get_or-drop, drop-cons, drop-drop}
 use borrow.Author.Tests.{ne_eqb, eqb-true, eqb-false, le-leb, lt-leb, leb-true, leb-false}
-use Rattle.base_sequences.proofs.Booleans.{and_left, and_right, and_none, cond-le}
+use Rattle.base_sequences.proofs.Booleans.{and_right, and_none}
 use Rattle.base_readers.specs.Texts.{bytes, same, within}
 use Rattle.base_readers.specs.Readers.{run}
 use Rattle.base_readers.proofs.Texts.{same-eq}

@@ -5,7 +5,7 @@ use mathlib.Core.Path.{◌≡◌, refl}
 use mathlib.Core.Bool.{Bool, true, false}
 use mathlib.Core.List.{List, ◌∷◌}
 use lib.ListN.{length, drop, length-drop}
-use Rattle.base_readers.specs.Texts.{same, follows}
+use Rattle.base_readers.specs.Texts.{follows}
 use Rattle.base_readers.specs.Parsers.{Got, nothing, got, several}
 use Rattle.base_readers.proofs.Bounds.{end-within}
 use Rattle.lexis_rules.specs.declared.Class.TheVariants.{Delimiter}

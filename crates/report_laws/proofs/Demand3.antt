@@ -16,7 +16,7 @@ use Rattle.report_rules.specs.Report.{Answer, answer, report}
 use Rattle.report_rules.specs.Newer.{Names, WithinLimit, WellFormed, results_of, IsResult, OneMore}
 use Rattle.report_rules.specs.Beside.{insertion_places, insert_at}
 use Rattle.report_rules.proofs.Unfolding.{opened}
-use Rattle.report_laws.proofs.Heads.{Run, naming-run}
+use Rattle.report_laws.proofs.Heads.{naming-run}
 use Rattle.report_laws.proofs.Readings.{report-is, newer-same}
 use Rattle.report_laws.proofs.Ignored.{newer-ignored, insert_at-length, ignored-inserted, places-four}
 

@@ -7,7 +7,7 @@ use mathlib.Core.Option.{none}
 use lib.ListN.{drop}
 use lib.Seq.{drop-drop}
 use Rattle.base_readers.specs.Texts.{bytes, same, starts}
-use Rattle.base_readers.specs.Parsers.{nothing, got, Parser, ◌>>=◌, ◌>>◌, when, end, byte, optional}
+use Rattle.base_readers.specs.Parsers.{nothing, got, Parser, ◌>>◌, when, end, byte, optional}
 use Rattle.base_readers.proofs.Sequencing.{bind-none, bind-stuck, bind_inv, when-inv, end-inv, byte-not, skipping-is, skipping-inv, optional-none}
 use Rattle.lexis_rules.specs.Pieces.{space}
 use Rattle.lexis_rules.specs.Words.{skip, read_keyword, read_word, read_number}

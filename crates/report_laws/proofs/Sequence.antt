@@ -9,7 +9,7 @@ use lib.Dec.{eqb}
 use lib.ListN.{drop}
 use lib.Seq.{drop-nil, drop-drop}
 use Rattle.base_readers.specs.Texts.{starts, follows}
-use Rattle.base_readers.specs.Parsers.{nothing, got, Parser, ◌>>=◌, ◌>>◌, give, end, several}
+use Rattle.base_readers.specs.Parsers.{nothing, got, Parser, ◌>>◌, give, end, several}
 use Rattle.base_readers.specs.Locality.{Within, Ends, Starts, Steady, Opens}
 use Rattle.base_readers.proofs.Texts.{starts-follows}
 use Rattle.base_readers.proofs.Sequencing.{no-got, bind-stuck, bind-got, bind_inv, give-is, give-inv, end_is, end-inv, skipping-is, skipping-inv}

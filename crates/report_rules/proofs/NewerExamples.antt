@@ -12,7 +12,7 @@ use Rattle.base_readers.specs.Texts.{bytes}
 use Rattle.base_readers.specs.Parsers.{Got, nothing, got}
 use Rattle.base_readers.proofs.Cases.{case, Says}
 use Rattle.lexis_rules.specs.declared.VersionNumber.TheVariants.{Exact}
-use Rattle.result_rules.specs.Results.{Result, result}
+use Rattle.result_rules.specs.Results.{Result}
 use Rattle.report_rules.specs.Body.{Head, unreadable, malformed, newer, no_result, results, reading}
 use Rattle.report_rules.specs.Report.{Answer}
 use Rattle.report_rules.specs.Newer.{naming, Names, WithinLimit, well_formed, WellFormed, results_of, IsResult, Same, OneMore}

@@ -1,6 +1,6 @@
 -- Document 01, "How strong the contracts have to be": where a result is put before or after another one.
 use Rattle.std.specs.Prelude.{ℕ, ◌+◌, List, [], ◌∷◌, ◌++◌, take, drop}
-use Rattle.base_readers.specs.Parsers.{nothing, got, Parser, ◌>>=◌, ◌>>◌, give, several}
+use Rattle.base_readers.specs.Parsers.{nothing, got, Parser, ◌>>=◌, give, several}
 use Rattle.lexis_rules.specs.Pieces.{space}
 use Rattle.lexis_rules.specs.Words.{skip}
 use Rattle.result_rules.specs.Results.{result}

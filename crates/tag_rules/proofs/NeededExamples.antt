@@ -1,6 +1,6 @@
 -- Which tag lists are those of a signature and of a seal, and chain values, at worked examples, computed.
 use Prim.Native.Nat.{ℕ}
-use mathlib.Core.Path.{◌≡◌, refl}
+use mathlib.Core.Path.{refl}
 use mathlib.Core.Bool.{Bool, true, false}
 use mathlib.Core.List.{List, [], ◌∷◌}
 use Rattle.base_readers.specs.Texts.{bytes}

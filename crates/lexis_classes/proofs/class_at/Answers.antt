@@ -1,6 +1,5 @@
 -- `lexis_classes::class_at` meets its contract by those of its two calls.
 use Rattle.lexis_classes.proofs.Items.{class-there}
-use borrow.Author.Rules.{rules}
 use Rattle.lexis_classes.proofs.class_at.Goals as goal
 
 pub returns : goal.returns

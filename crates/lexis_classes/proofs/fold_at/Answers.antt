@@ -1,6 +1,5 @@
 -- `lexis_classes::fold_at` meets its contract: each test is one of the definition.
 use Rattle.lexis_classes.proofs.Items.{fold-no-return, fold-no-feed, fold_is}
-use borrow.Author.Rules.{rules}
 use Rattle.lexis_classes.proofs.fold_at.Goals as goal
 
 pub returns-then-is_at-2 : goal.returns-then-is_at-2

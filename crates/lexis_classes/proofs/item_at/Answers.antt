@@ -1,6 +1,5 @@
 -- `lexis_classes::item_at` meets its contract: each test is one of the definition.
 use Rattle.lexis_classes.proofs.Items.{item-byte, item-pair, item-fold, item-none}
-use borrow.Author.Rules.{rules}
 use Rattle.lexis_classes.proofs.item_at.Goals as goal
 
 pub returns-then-class_at : goal.returns-then-class_at

@@ -1,10 +1,4 @@
-use Prim.Native.Nat.{◌-◌}
-use borrow.Author.Rules.{rules}
-use lib.ListN.{length}
-use Rattle.base_readers.specs.Readers.{many}
-use Rattle.base_readers.specs.Places.{Reaches}
 use Rattle.base_readers.proofs.Loops.{reaches-start}
-use Rattle.lexis_rules.specs.Pieces.{item}
 use Rattle.lexis_classes.proofs.Loops.{items-on, items-off, item-turn, item-less}
 use Rattle.lexis_classes.proofs.items_end.Goals as goal
 

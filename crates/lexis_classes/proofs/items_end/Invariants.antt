@@ -1,12 +1,9 @@
 -- `lexis_classes::items_end` meets its contract: from each place of the loop the items end where they end from the first.
 use Prim.Native.Nat.{◌-◌}
-use borrow.Author.Rules.{rules}
 use lib.ListN.{length}
 use Rattle.base_readers.specs.Readers.{many}
 use Rattle.base_readers.specs.Places.{Reaches}
-use Rattle.base_readers.proofs.Loops.{reaches-start}
 use Rattle.lexis_rules.specs.Pieces.{item}
-use Rattle.lexis_classes.proofs.Loops.{items-on, items-off, item-turn, item-less}
 use Rattle.lexis_classes.proofs.items_end.Given as goal
 
 abbrev pub invariant-loop-c : goal.invariant-loop-c

@@ -1,6 +1,5 @@
 -- `lexis_classes::pair_at` meets its contract: each test is one of the definition.
 use Rattle.lexis_classes.proofs.Items.{pair-never, pair-not, pair_is}
-use borrow.Author.Rules.{rules}
 use Rattle.lexis_classes.proofs.pair_at.Goals as goal
 
 pub returns-then-is_at : goal.returns-then-is_at

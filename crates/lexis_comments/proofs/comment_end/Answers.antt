@@ -1,6 +1,5 @@
 -- `lexis_comments::comment_end` meets its contract by that of the reader from a fresh cursor.
 use Rattle.lexis_comments.proofs.Loops.{fresh-comment}
-use borrow.Author.Rules.{rules}
 use Rattle.lexis_comments.proofs.comment_end.Goals as goal
 
 pub returns : goal.returns

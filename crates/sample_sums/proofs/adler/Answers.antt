@@ -1,9 +1,5 @@
-use Prim.Native.Nat.{◌-◌, ◌≤◌, ◌<◌}
 use native.Mathlib.Omega.{arith}
-use mathlib.Core.Path.{◌≡◌, refl}
-use lib.ListN.{length, drop}
-use borrow.Author.Rules.{rules}
-use Rattle.sample_sums.specs.Sums.{sums, adler}
+use mathlib.Core.Path.{refl}
 use Rattle.sample_sums.proofs.Sums.{sums-more, sums-end}
 use Rattle.sample_sums.proofs.adler.Goals as goal
 

@@ -1,12 +1,9 @@
 -- `sample_sums::adler` meets its contract: the sum over the bytes still to come, from the two halves so far, is the whole sum; both halves
 -- stay below 65,521.
 use Prim.Native.Nat.{◌-◌, ◌≤◌, ◌<◌}
-use native.Mathlib.Omega.{arith}
-use mathlib.Core.Path.{◌≡◌, refl}
+use mathlib.Core.Path.{◌≡◌}
 use lib.ListN.{length, drop}
-use borrow.Author.Rules.{rules}
 use Rattle.sample_sums.specs.Sums.{sums, adler}
-use Rattle.sample_sums.proofs.Sums.{sums-more, sums-end}
 use Rattle.sample_sums.proofs.adler.Given as goal
 
 abbrev pub invariant-loop-i : goal.invariant-loop-i

@@ -1,10 +1,5 @@
-use Prim.Native.Nat.{◌+◌, ◌-◌, ◌≤◌}
 use native.Mathlib.Omega.{arith}
 use native.Mathlib.Nat.{zero-add}
-use mathlib.Core.Path.{◌≡◌}
-use lib.ListN.{length, drop}
-use borrow.Author.Rules.{rules}
-use Rattle.sample_sums.specs.Sums.{changed}
 use Rattle.sample_sums.proofs.Sums.{counted, counted-more, changed-more, changed-end}
 use Rattle.sample_sums.proofs.changed.Goals as goal
 

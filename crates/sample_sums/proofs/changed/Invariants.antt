@@ -1,13 +1,9 @@
 -- `sample_sums::changed` meets its contract: the count so far and the bytes still to count make up the whole; it counts no more bytes than it
 -- has passed.
 use Prim.Native.Nat.{◌+◌, ◌-◌, ◌≤◌}
-use native.Mathlib.Omega.{arith}
-use native.Mathlib.Nat.{zero-add}
 use mathlib.Core.Path.{◌≡◌}
 use lib.ListN.{length, drop}
-use borrow.Author.Rules.{rules}
 use Rattle.sample_sums.specs.Sums.{changed}
-use Rattle.sample_sums.proofs.Sums.{counted, counted-more, changed-more, changed-end}
 use Rattle.sample_sums.proofs.changed.Given as goal
 
 abbrev pub invariant-loop-i : goal.invariant-loop-i

@@ -1,7 +1,4 @@
-use Prim.Native.Nat.{◌-◌, ◌≤◌}
 use native.Mathlib.Omega.{arith}
-use borrow.Author.Rules.{rules}
-use Rattle.text_compare.specs.Internal.{Compared}
 use Rattle.text_compare.proofs.Comparing.{compared-none, compared-more, compared-all}
 use Rattle.text_compare.proofs.differ.Goals as goal
 

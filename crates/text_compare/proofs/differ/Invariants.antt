@@ -1,9 +1,6 @@
 -- `text_compare::differ` meets its contract: what is known after each byte is what is known after one more.
 use Prim.Native.Nat.{◌-◌, ◌≤◌}
-use native.Mathlib.Omega.{arith}
-use borrow.Author.Rules.{rules}
 use Rattle.text_compare.specs.Internal.{Compared}
-use Rattle.text_compare.proofs.Comparing.{compared-none, compared-more, compared-all}
 use Rattle.text_compare.proofs.differ.Given as goal
 
 abbrev pub invariant-loop-j : goal.invariant-loop-j

@@ -1,6 +1,5 @@
 -- `text_compare::lower` meets its contract: in each branch the tests of the code say what the definition's test says.
 use borrow.Author.Tests.{lt-leb, le-leb}
-use borrow.Author.Rules.{rules}
 use Rattle.base_readers.specs.Texts.{within}
 use Rattle.lexis_rules.specs.Bytes.{lower}
 use Rattle.text_compare.proofs.lower.Goals as goal

@@ -1,7 +1,6 @@
 -- `text_compare::same_byte` meets its contract: equal bytes have one lower case.
 use mathlib.Core.Path.{sym, ap}
 use borrow.Author.Tests.{eq-eqb}
-use borrow.Author.Rules.{rules}
 use Rattle.lexis_rules.specs.Bytes.{lower}
 use Rattle.text_compare.proofs.same_byte.Goals as goal
 

@@ -1,9 +1,6 @@
-use Prim.Native.Nat.{◌+◌, ◌-◌, ◌≤◌}
+use Prim.Native.Nat.{◌+◌}
 use native.Mathlib.Omega.{arith}
-use mathlib.Core.Path.{◌≡◌, refl}
-use borrow.Author.Rules.{rules}
-use lib.ListN.{length, drop}
-use Rattle.lexis_rules.specs.Bytes.{alike}
+use mathlib.Core.Path.{refl}
 use Rattle.lexis_laws.proofs.Bytes.{alike-long}
 use Rattle.text_compare.proofs.Comparing.{pieces_end, pieces-on, pieces-off}
 use Rattle.text_compare.proofs.same_text.Goals as goal

@@ -1,13 +1,9 @@
 -- `text_compare::same_text` meets its contract: texts of different lengths are not alike, at each turn the rests are alike if and only if the
 -- whole texts are, and the last sixteen bytes hold what is left.
-use Prim.Native.Nat.{◌+◌, ◌-◌, ◌≤◌}
-use native.Mathlib.Omega.{arith}
-use mathlib.Core.Path.{◌≡◌, refl}
-use borrow.Author.Rules.{rules}
+use Prim.Native.Nat.{◌-◌, ◌≤◌}
+use mathlib.Core.Path.{◌≡◌}
 use lib.ListN.{length, drop}
 use Rattle.lexis_rules.specs.Bytes.{alike}
-use Rattle.lexis_laws.proofs.Bytes.{alike-long}
-use Rattle.text_compare.proofs.Comparing.{pieces_end, pieces-on, pieces-off}
 use Rattle.text_compare.proofs.same_text.Given as goal
 
 abbrev pub invariant-loop-n : goal.invariant-loop-n

@@ -1,9 +1,5 @@
-use Prim.Native.Nat.{◌-◌}
 use native.Mathlib.Omega.{arith}
-use mathlib.Core.Path.{◌≡◌, refl}
-use borrow.Author.Rules.{rules}
-use lib.ListN.{length, drop}
-use Rattle.lexis_rules.specs.Bytes.{alike}
+use mathlib.Core.Path.{refl}
 use Rattle.lexis_laws.proofs.Bytes.{alike-long}
 use Rattle.text_compare.proofs.Comparing.{word_end, word_on, word-off}
 use Rattle.text_compare.proofs.same_word.Goals as goal

@@ -1,13 +1,9 @@
 -- `text_compare::same_word` meets its contract: texts of different lengths are not alike, and at each turn the rests are alike if and only if
 -- the whole texts are.
 use Prim.Native.Nat.{◌-◌}
-use native.Mathlib.Omega.{arith}
-use mathlib.Core.Path.{◌≡◌, refl}
-use borrow.Author.Rules.{rules}
+use mathlib.Core.Path.{◌≡◌}
 use lib.ListN.{length, drop}
 use Rattle.lexis_rules.specs.Bytes.{alike}
-use Rattle.lexis_laws.proofs.Bytes.{alike-long}
-use Rattle.text_compare.proofs.Comparing.{word_end, word_on, word-off}
 use Rattle.text_compare.proofs.same_word.Given as goal
 
 abbrev pub invariant-loop-j : goal.invariant-loop-j

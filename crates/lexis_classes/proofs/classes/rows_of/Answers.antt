@@ -1,7 +1,6 @@
 -- `lexis_classes::classes::rows_of` meets its contract: the binary digits of each class are computed.
 use Rattle.lexis_rules.specs.declared.Class.TheVariants.{Blank, Opening, Zero, Digit, Keyword, Token, Quoted, Comment, Escaped, Name, Visible, Delimiter, Tag}
 use Rattle.lexis_classes.proofs.Digits.{told}
-use borrow.Author.Rules.{rules}
 use Rattle.lexis_classes.proofs.classes.rows_of.Goals as goal
 
 pub returns-in-Blank : goal.returns-in-Blank

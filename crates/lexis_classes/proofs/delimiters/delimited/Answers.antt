@@ -2,7 +2,6 @@
 use Rattle.lexis_rules.specs.declared.Class.TheVariants.{Delimiter}
 use Rattle.lexis_rules.specs.Bytes.{in_class}
 use Rattle.base_readers.proofs.Texts.{follows-at, follows-end}
-use borrow.Author.Rules.{rules}
 use Rattle.lexis_classes.proofs.delimiters.delimited.Goals as goal
 
 pub returns-then-at-s : goal.returns-then-at-s

@@ -1,13 +1,5 @@
-use Prim.Native.Nat.{◌+◌, ◌-◌, ◌≤◌}
 use native.Mathlib.Omega.{arith}
-use mathlib.Core.Path.{◌≡◌}
-use mathlib.Core.Bool.{false}
-use borrow.Author.Rules.{rules}
-use Rattle.base_readers.specs.Readers.{run}
-use Rattle.base_readers.specs.Places.{Reaches}
 use Rattle.base_readers.proofs.Loops.{piece-none, piece-all, hits-on}
-use Rattle.lexis_rules.specs.declared.Class.TheVariants.{Comment}
-use Rattle.lexis_rules.specs.Bytes.{in_class}
 use Rattle.lexis_comments.proofs.plain.has_stop.Goals as goal
 
 pub loop-j-init : goal.loop-j-init

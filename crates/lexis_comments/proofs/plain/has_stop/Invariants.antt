@@ -1,12 +1,9 @@
 -- `lexis_comments::plain::has_stop` meets its contract: as long as no byte has hit, the run ends where it ends from the first place on.
 use Prim.Native.Nat.{◌+◌, ◌-◌, ◌≤◌}
-use native.Mathlib.Omega.{arith}
 use mathlib.Core.Path.{◌≡◌}
 use mathlib.Core.Bool.{false}
-use borrow.Author.Rules.{rules}
 use Rattle.base_readers.specs.Readers.{run}
 use Rattle.base_readers.specs.Places.{Reaches}
-use Rattle.base_readers.proofs.Loops.{piece-none, piece-all, hits-on}
 use Rattle.lexis_rules.specs.declared.Class.TheVariants.{Comment}
 use Rattle.lexis_rules.specs.Bytes.{in_class}
 use Rattle.lexis_comments.proofs.plain.has_stop.Given as goal

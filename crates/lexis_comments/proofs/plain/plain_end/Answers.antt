@@ -1,5 +1,4 @@
 -- `lexis_comments::plain::plain_end` meets its contract: where the first byte is not plain the run is empty.
-use borrow.Author.Rules.{rules}
 use Rattle.base_readers.proofs.Loops.{run-shut}
 use Rattle.lexis_rules.specs.declared.Class.TheVariants.{Comment}
 use Rattle.lexis_rules.specs.Bytes.{in_class}

@@ -1,9 +1,4 @@
-use Prim.Native.Nat.{◌-◌}
-use native.Mathlib.Omega.{arith}
-use borrow.Author.Rules.{rules}
-use lib.ListN.{length}
 use Rattle.base_readers.specs.Readers.{run}
-use Rattle.base_readers.specs.Places.{Reaches}
 use Rattle.base_readers.proofs.Loops.{reaches-start, reaches-found, text-on}
 use Rattle.lexis_rules.specs.declared.Class.TheVariants.{Comment}
 use Rattle.lexis_rules.specs.Bytes.{in_class}

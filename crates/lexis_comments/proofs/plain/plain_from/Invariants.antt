@@ -1,11 +1,8 @@
 -- `lexis_comments::plain::plain_from` meets its contract: from each place of the loop the run ends where it ends from the first.
 use Prim.Native.Nat.{◌-◌}
-use native.Mathlib.Omega.{arith}
-use borrow.Author.Rules.{rules}
 use lib.ListN.{length}
 use Rattle.base_readers.specs.Readers.{run}
 use Rattle.base_readers.specs.Places.{Reaches}
-use Rattle.base_readers.proofs.Loops.{reaches-start, reaches-found, text-on}
 use Rattle.lexis_rules.specs.declared.Class.TheVariants.{Comment}
 use Rattle.lexis_rules.specs.Bytes.{in_class}
 use Rattle.lexis_comments.proofs.plain.plain_from.Given as goal

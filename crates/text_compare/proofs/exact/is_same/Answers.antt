@@ -1,9 +1,5 @@
-use Prim.Native.Nat.{◌-◌, ◌≤◌}
 use native.Mathlib.Omega.{arith}
-use mathlib.Core.Path.{◌≡◌, refl}
-use lib.ListN.{length, drop}
-use borrow.Author.Rules.{rules}
-use Rattle.base_readers.specs.Texts.{same}
+use mathlib.Core.Path.{refl}
 use Rattle.text_compare.proofs.Sames.{lengths_differ, same_end, same_more, same-off}
 use Rattle.text_compare.proofs.exact.is_same.Goals as goal
 

@@ -1,11 +1,8 @@
 -- `text_compare::exact::is_same` meets its contract: the runs are the same from each place on where they are the same.
 use Prim.Native.Nat.{◌-◌, ◌≤◌}
-use native.Mathlib.Omega.{arith}
-use mathlib.Core.Path.{◌≡◌, refl}
+use mathlib.Core.Path.{◌≡◌}
 use lib.ListN.{length, drop}
-use borrow.Author.Rules.{rules}
 use Rattle.base_readers.specs.Texts.{same}
-use Rattle.text_compare.proofs.Sames.{lengths_differ, same_end, same_more, same-off}
 use Rattle.text_compare.proofs.exact.is_same.Given as goal
 
 abbrev pub invariant-loop-i : goal.invariant-loop-i
