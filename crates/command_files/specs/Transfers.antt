@@ -1,5 +1,6 @@
 -- What can be said of a transfer, though not what is read or written.
-use Rattle.std.specs.Prelude.{ℕ, zero, suc, ◌≤◌, min, ◌≡◌, ⊤, Bool, true, false, List, eqb, ℤ, pos, negsuc, length, take}
+use Rattle.std.specs.Prelude.{ℕ, zero, suc, ◌≤◌, ◌<◌, min, ◌≡◌, Option, Result, Ok, IsErr, Bool, true, false, List, eqb, ℤ, pos, negsuc, length, take}
+use Rattle.std.specs.Io.KnownBytes.{Consumes, IsAtEnd, Appends}
 use Rattle.command_files.specs.declared.Input.{Input}
 use Rattle.command_files.specs.declared.Turn.{Turn}
 use Rattle.command_files.specs.declared.Turn.TheVariants as turns
@@ -17,12 +18,12 @@ turn_of (pos zero) errno room = turns.Ended
 turn_of (pos (suc k)) errno room = turns.Moved (min (suc k) room)
 turn_of (negsuc k) errno room = elim (interrupted errno) [ true ↦ turns.Interrupted | false ↦ turns.Failed ]
 
--- no more bytes are moved than there are
-abbrev pub IsWithin : Turn → ℕ → Type 0
-IsWithin (turns.Moved n) room = n ≤ room
-IsWithin turns.Ended room = ⊤
-IsWithin turns.Interrupted room = ⊤
-IsWithin turns.Failed room = ⊤
+-- what std answered, by what is told of it
+abbrev pub Answered : {E : Type 0} → Result ℕ E → Turn → Type 0
+Answered a (turns.Moved n) = a ≡ Ok n
+Answered a turns.Ended = a ≡ Ok 0
+Answered a turns.Interrupted = IsErr a
+Answered a turns.Failed = IsErr a
 
 -- n bytes stand in front of xs. The second part follows from the first; both are stated so that `&buf[..n]` needs no proof file.
 abbrev pub IsPrefixLen : ℕ → List ℕ → Type 0
@@ -32,9 +33,18 @@ IsPrefixLen n xs = (n ≤ length xs) × (n ≡ length (take n xs))
 abbrev pub Taken : Input → List ℕ → Type 0
 Taken r buf = IsPrefixLen r.length buf × (r.whole ≡ false → r.length ≡ 0)
 
+-- of a reader that says which bytes it gives (`old` before, `new` after, None where it does not say): an input that was read whole is what it gave,
+-- and where it did not fill the buffer, there are no more
+abbrev pub Reads : Option (List ℕ) → Option (List ℕ) → Input → List ℕ → Type 0
+Reads old new r buf = r.whole ≡ true → Consumes old new (take r.length buf) × (r.length < length buf → IsAtEnd new)
+
 -- a text of no bytes is written
 abbrev pub Gone : List ℕ → Bool → Type 0
 Gone text r = length text ≡ 0 → r ≡ true
+
+-- of a writer that says which bytes it holds (`old` before, `new` after): a text that was written is what it took
+abbrev pub Writes : Option (List ℕ) → Option (List ℕ) → List ℕ → Bool → Type 0
+Writes old new text r = r ≡ true → Appends old new text
 
 -- a path of no bytes is that of no file
 abbrev pub Found : List ℕ → Opened → Type 0

@@ -6,17 +6,20 @@
 //   after_call(got, errno, buf)   tells what came of one call
 //   argument(env, number, word)   an argument of the program, and argument_count(env) how many there are
 //
-// What a call does to a file of the system is in no contract of the kit, so no contract here says which bytes were read or written, and of which file: a program that
-// reads or writes elsewhere, or makes no call, meets those of `open`, `read_whole` and `write_whole`. What is made of a call's answer is an equation (`after_call`). The rest
-// is tried by tests/command, with calls that fail or move one byte.
+// What a call does to a file of the system is in no contract of the kit, so of such a file no contract here says which bytes were read or written, nor which file it
+// was: a program that reads or writes elsewhere, or makes no call, meets those of `open`, `read_whole` and `write_whole`. Of a reader or a writer that says which bytes
+// it gives or holds, as one over memory does, they say that all of them came, in order, where they answer that the whole was read or written. What is made of a call's
+// answer is an equation (`after_call`). The rest is tried by tests/command, with calls that fail or move one byte.
 //
 // A reader that takes a read that fails for the end of the input can't be used here: a block that was cut short must never
 // look like a whole one. A call that a signal interrupts (EINTR) is made again; any other failure is told. `open` leaves that to std, which makes
 // an interrupted open again.
 #![tactic(auto)]
 
-ghost use Rattle.std.specs.Prelude.{◌≡◌, length};
-ghost use Rattle.command_files.specs.Transfers.{turn_of, IsPrefixLen, IsWithin, Taken, Gone, Found};
+ghost use Rattle.std.specs.Prelude.{◌≡◌, ◌↔◌, length, pos, IsErrAnd};
+ghost use Rattle.std.specs.IoError.{error_kind};
+ghost use Rattle.std.specs.Io.{WritesAtMost};
+ghost use Rattle.command_files.specs.Transfers.{turn_of, Answered, IsPrefixLen, Taken, Reads, Gone, Writes, Found};
 
 use std::env::FillError;
 use std::fs::File;
@@ -78,7 +81,9 @@ pub fn after_call(got: isize, errno: i32, buf: &[u8]) -> Turn
 }
 
 // The number of an error, by which `after_call` tells what came of the call.
-fn number_of(error: &io::Error) -> i32 {
+fn number_of(error: &io::Error) -> i32
+    ensures { result ≡ pos 4 ↔ error_kind error.now ≡ ErrorKind.Interrupted }
+{
     if error.kind() == ErrorKind::Interrupted {
         return EINTR;
     }
@@ -92,17 +97,23 @@ fn number_of(error: &io::Error) -> i32 {
 // Tells what came of a call of std's read or write, which was handed these bytes.
 #[tactic(auto, unfolding(crate::specs::Transfers::turn_of, crate::specs::Transfers::interrupted))]
 fn after_answer(answer: io::Result<usize>, buf: &[u8]) -> Turn
-    ensures { IsWithin result (length buf.now) }
+    requires { WritesAtMost answer buf.now }
+    ensures answered { Answered answer result }
+    ensures interrupted { result ≡ Turn.Interrupted ↔ IsErrAnd answer (λ e. error_kind e ≡ ErrorKind.Interrupted) }
 {
     match answer {
-        Ok(moved) => after_call(isize::try_from(moved).unwrap_or(isize::MAX), 0, buf),
+        Ok(moved) => match isize::try_from(moved) {
+            Ok(got) => after_call(got, 0, buf),
+            Err(_) => Turn::Moved(moved),
+        },
         Err(error) => after_call(-1, number_of(&error), buf),
     }
 }
 
 // Reads until the buffer is full or the input ends. A read that fails is told, wherever it happens.
 pub fn read_whole<R: Read>(file: &mut R, buf: &mut [u8]) -> Input
-    ensures { Taken result buf.new }
+    ensures taken { Taken result buf.new }
+    ensures bytes { Reads (R.remaining file.old) (R.remaining file.new) result buf.new }
 {
     let mut done: usize = 0;
     for _ in 0..CALLS {
@@ -138,7 +149,8 @@ pub fn read_whole<R: Read>(file: &mut R, buf: &mut [u8]) -> Input
 
 // Writes a text whole, or answers false; then some of it may have been written.
 pub fn write_whole<W: Write>(file: &mut W, text: &[u8]) -> bool
-    ensures { Gone text.now result }
+    ensures gone { Gone text.now result }
+    ensures bytes { Writes (W.contents file.old) (W.contents file.new) text.now result }
 {
     let mut done: usize = 0;
     for _ in 0..CALLS {
