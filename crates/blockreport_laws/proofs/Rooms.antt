@@ -4,10 +4,9 @@ use native.Mathlib.Omega.{arith}
 use mathlib.Core.Path.{◌≡◌, refl, ap}
 use mathlib.Core.Bool.{Bool, true, false}
 use mathlib.Core.List.{List, [], ◌∷◌, ◌++◌}
-use lib.ListN.{length, take, drop, length-append, length-take, length-drop}
+use lib.ListN.{length, drop, length-append, length-take, length-drop}
 use Rattle.base_readers.specs.Texts.{bytes}
 use Rattle.base_readers.specs.Parsers.{Got}
-use Rattle.text_decimals_rules.specs.Decimals.{decimal}
 use Rattle.text_decimals_rules.proofs.DigitsTell.{decimal-length}
 use Rattle.lexis_rules.specs.Bytes.{alike}
 use Rattle.lexis_rules.specs.Limits.{byte_limit}
@@ -22,7 +21,7 @@ use Rattle.report_rules.specs.Report.{line}
 use Rattle.report_rules.specs.ByCase.{number_of, text_of, count_of}
 use Rattle.report_laws.proofs.Counts.{count-size}
 use Rattle.blockreport_rules.specs.declared.Detail.{Detail}
-use Rattle.blockreport_rules.specs.FieldLines.{word_of, field_line}
+use Rattle.blockreport_rules.specs.FieldLines.{field_line}
 use Rattle.blockreport_rules.specs.BlockReport.{detail_line, body_lines, addition, additions, block_report}
 use Rattle.blockreport_rules.specs.Terms.{block_text, Known}
 use Rattle.blockreport_laws.proofs.Numbers.{six-when}

@@ -4,8 +4,7 @@ use native.Mathlib.Omega.{arith}
 use mathlib.Core.Path.{◌≡◌, refl, sym, ap, ◌∙◌}
 use mathlib.Core.Bool.{Bool, true, false}
 use mathlib.Core.List.{List, [], ◌++◌, append-nil}
-use borrow.Author.Tests.{eqb-true, ne_eqb}
-use lib.Dec.{eqb}
+use borrow.Author.Tests.{ne_eqb}
 use Rattle.base_readers.specs.Texts.{bytes}
 use Rattle.base_readers.specs.Parsers.{Got, nothing, got}
 use Rattle.base_readers.proofs.Sequencing.{bind-none}
@@ -14,7 +13,7 @@ use Rattle.ownlist_rules.specs.declared.Own.{Own}
 use Rattle.identifier_rules.specs.Identifier.{identifier}
 use Rattle.report_rules.specs.Body.{Reading, unreadable, malformed, newer, no_result, results, head, reading}
 use Rattle.report_rules.specs.Report.{id_line}
-use Rattle.report_rules.specs.ByCase.{number_of, text_of, count_of}
+use Rattle.report_rules.specs.ByCase.{number_of}
 use Rattle.blockreport_rules.specs.declared.Detail.{Detail}
 use Rattle.blockreport_rules.specs.declared.Detail.TheVariants.{Reported, Identified}
 use Rattle.blockreport_rules.specs.FieldLines.{field_line, identifier_line}

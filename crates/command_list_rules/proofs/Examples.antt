@@ -1,17 +1,15 @@
 -- What is said of a list, at worked examples, by computing it: both sides of each clause.
 use Prim.Native.Nat.{ℕ}
 use mathlib.Core.Path.{◌≡◌, refl}
-use mathlib.Core.List.{List, [], ◌∷◌, ◌++◌}
+use mathlib.Core.List.{[], ◌∷◌}
 use Rattle.base_readers.specs.Texts.{bytes}
 use Rattle.base_readers.specs.Lines.{lines_of}
-use Rattle.base_readers.proofs.Cases.{case, Says, copies}
+use Rattle.base_readers.proofs.Cases.{case, Says}
 use Rattle.text_decimals_rules.specs.Decimals.{digits, decimal}
 use Rattle.identifier_rules.specs.Identifier.{identifier_byte}
 use Rattle.ownlist_rules.proofs.Unfolding.{opened}
 use Rattle.report_rules.specs.Report.{plain, escape}
-use Rattle.command_list_rules.specs.declared.Notice.{Notice}
 use Rattle.command_list_rules.specs.declared.Notice.TheVariants.{Mark, Hash, Unbare, Star, Unnoticed}
-use Rattle.command_list_rules.specs.declared.Said.TheVariants.{Compared, Noticed, Noted}
 use Rattle.command_list_rules.specs.Notices.{marked, starless, notice_of, words, silent, notice_line, compared_line, line_of, lines_from, notices, notes, notes_of, check_text}
 
 said : ℕ

@@ -1,11 +1,11 @@
 -- How long the texts are: what is said of any list on standard error has at most 4,480 bytes, and what `check` says of a good one at most 201,024. A list
 -- has at most 64 entries, and an entry as it is compared at most 1,020 bytes, each written with three at most.
-use Prim.Native.Nat.{ℕ, zero, suc, ◌+◌, ◌*◌, ◌≤◌, ◌<◌, ◌^◌}
+use Prim.Native.Nat.{ℕ, zero, suc, ◌+◌, ◌*◌, ◌≤◌, ◌<◌}
 use native.Mathlib.Omega.{arith}
-use mathlib.Core.Path.{◌≡◌, refl, sym, ap, ◌∙◌}
+use mathlib.Core.Path.{◌≡◌, refl}
 use mathlib.Core.Bool.{Bool, true, false, cond}
 use mathlib.Core.List.{List, [], ◌∷◌, ◌++◌, map}
-use lib.Dec.{lit≤, lit<}
+use lib.Dec.{lit≤}
 use lib.ListN.{length, length-append, take, drop, length-map}
 use Rattle.base_readers.specs.Texts.{bytes}
 use Rattle.base_readers.specs.Readers.{run}
@@ -15,14 +15,12 @@ use Rattle.text_decimals_rules.proofs.DigitsTell.{decimal-length}
 use Rattle.punycode_rules.specs.Labels.{spelling}
 use Rattle.identifier_rules.specs.Identifier.{identifier_byte}
 use Rattle.ownlist_rules.specs.OwnList.{own_list}
-use Rattle.ownlist_rules.specs.Spelled.{spelled_list}
 use Rattle.ownlist_laws.proofs.OwnListLaws.{list-few, good-few, list_length}
 use Rattle.report_rules.specs.Report.{plain, escape}
 use Rattle.command_list_rules.specs.declared.Notice.{Notice}
 use Rattle.command_list_rules.specs.declared.Notice.TheVariants.{Mark, Hash, Unbare, Star, Unnoticed}
-use Rattle.command_list_rules.specs.declared.Said.{Said}
 use Rattle.command_list_rules.specs.declared.Said.TheVariants.{Compared, Noticed, Noted}
-use Rattle.command_list_rules.specs.Notices.{notice_of, unbare, words, silent, entry_front, notice_line, compared_line, note_label, line_of, lines_from, empty_line, notices, notes, notes_of, check_text}
+use Rattle.command_list_rules.specs.Notices.{notice_of, unbare, words, silent, entry_front, notice_line, compared_line, note_label, line_of, lines_from, notices, notes, notes_of, check_text}
 
 -- ==== parts of a line
 

@@ -1,10 +1,10 @@
 -- Every line of an ending fits 256 bytes.
-use Prim.Native.Nat.{ℕ, ◌+◌, ◌≤◌, ◌<◌, ◌^◌}
+use Prim.Native.Nat.{ℕ, ◌≤◌, ◌<◌, ◌^◌}
 use native.Mathlib.Omega.{arith}
-use mathlib.Core.Path.{◌≡◌, refl, ap}
+use mathlib.Core.Path.{◌≡◌, refl}
 use mathlib.Core.Bool.{Bool, true, false}
-use mathlib.Core.List.{List, [], ◌∷◌, ◌++◌}
-use lib.Dec.{leb, eqb, lit≤, lit<}
+use mathlib.Core.List.{List, ◌++◌}
+use lib.Dec.{leb, eqb, lit≤}
 use lib.ListN.{length, length-append, take, drop}
 use Rattle.base_readers.specs.Texts.{bytes}
 use Rattle.text_decimals_rules.specs.Decimals.{decimal}

@@ -1,5 +1,5 @@
 -- What the words of a call ask for: `strip LIST`, `log LIST`, `report LIST`, `explain LIST`, `judge VERDICTS`, `check LIST` or `write`.
-use Rattle.std.specs.Prelude.{ℕ, true, false, cond, List, eqb}
+use Rattle.std.specs.Prelude.{ℕ, cond, List, eqb}
 use Rattle.base_readers.specs.Texts.{bytes, same}
 use Rattle.command_rules.specs.declared.Asked.{Asked}
 use Rattle.command_rules.specs.declared.Asked.TheVariants.{Strip, Log, Report, Explain, Judge, Check, Write, Nothing}

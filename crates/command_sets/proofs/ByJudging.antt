@@ -2,16 +2,16 @@
 use Prim.Native.Nat.{ℕ, zero, suc, ◌+◌, ◌≤◌, ◌<◌}
 use native.Mathlib.Omega.{arith}
 use mathlib.Core.Path.{◌≡◌, refl, sym, ap, ◌∙◌}
-use mathlib.Core.Bool.{Bool, true, false, ◌&&◌}
-use mathlib.Core.List.{List, [], ◌∷◌}
-use lib.Dec.{ltb, eqb, leb}
+use mathlib.Core.Bool.{Bool, true, false}
+use mathlib.Core.List.{List}
+use lib.Dec.{ltb, leb}
 use lib.ListN.{length, take, replicate}
 use lib.Seq.{length-take-le}
 use borrow.Author.Tests.{eq-eqb, leb-true, leb-false}
 use Rattle.lexis_rules.specs.Limits.{byte_limit}
 use Rattle.block_rules.specs.Fields.{Field, fields}
 use Rattle.arc_rules.specs.declared.Judged.{Judged}
-use Rattle.arc_rules.specs.Chain.{Outcome, none, failed, built, outcome, all, valid_for, passes, blank, judged, judge}
+use Rattle.arc_rules.specs.Chain.{Outcome, none, failed, built, outcome, all, valid_for, passes, judged, judge}
 use Rattle.arc_rules.specs.Answers.{answer_of}
 use Rattle.arc_laws.proofs.Acceptance.{accepted-exactly}
 use Rattle.command_sets.specs.Sets.{built_of, sets_of}

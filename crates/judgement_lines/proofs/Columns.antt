@@ -1,8 +1,8 @@
 -- The columns of a judgement, stored: each word is a phrase of its function's text, and the columns one after another are the line. The premises are literally
 -- what a need is handed.
-use Prim.Native.Nat.{ℕ, zero, suc, ◌≤◌, ◌<◌, ◌^◌}
+use Prim.Native.Nat.{ℕ, zero, suc, ◌<◌, ◌^◌}
 use native.Mathlib.Omega.{arith}
-use mathlib.Core.Path.{◌≡◌, refl, sym}
+use mathlib.Core.Path.{◌≡◌, refl}
 use mathlib.Core.List.{List, [], ◌∷◌, ◌++◌, append_assoc}
 use lib.ListN.{length}
 use borrow.Author.Tests.{eq-eqb, ne_eqb}

@@ -1,7 +1,7 @@
 -- Judgements as they are written, at worked examples, by computing them.
 use Prim.Native.Nat.{ℕ}
 use mathlib.Core.Path.{◌≡◌, refl}
-use mathlib.Core.List.{List, [], ◌∷◌, map}
+use mathlib.Core.List.{[], ◌∷◌, map}
 use Rattle.base_readers.specs.Texts.{bytes, within}
 use Rattle.text_decimals_rules.specs.Decimals.{digits, decimal}
 use Rattle.report_rules.specs.Report.{line}

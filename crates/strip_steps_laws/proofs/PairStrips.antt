@@ -13,7 +13,7 @@ use Rattle.ownlist_rules.specs.OwnList.{own_list}
 use Rattle.ownlist_rules.specs.Calls.{or_short}
 use Rattle.ownlist_laws.proofs.AnswersInOrder.{long, bad, cut, through}
 use Rattle.ownlist_laws.proofs.CallCases.{or-short-short, or-short-fits}
-use Rattle.strip_rules.specs.Strip.{refuse, strip}
+use Rattle.strip_rules.specs.Strip.{strip}
 use Rattle.strip_laws.proofs.Laws.{strip-order}
 use Rattle.strip_steps_rules.specs.Steps.{Marks, refuse_marks, done_marks, mark, copy}
 use Rattle.strip_steps_rules.specs.Pair.{pair}

@@ -18,7 +18,7 @@ use Rattle.identifier_rules.specs.Identifier.{identifier_token}
 use Rattle.write_rules.specs.Entries.{Entry, identified, unstated, reasoned, whole, literal, id_entry, none_entry, reason_entry}
 use Rattle.write_rules.specs.Bodies.{bare_or, piece}
 use Rattle.write_columns.specs.declared.coded.Test.TheVariants.{Token, Identifier}
-use Rattle.write_columns.specs.declared.coded.tail_reader as tail
+use Rattle.write_columns.specs.declared.coded.Tail as tail
 use Rattle.write_columns.specs.Internal.{text_of, in_test, spells, tail_reader, tail_at, TailEnd, ends, endless}
 use Rattle.write_lines.specs.Internal.{PiecePut, stood, missing}
 use Rattle.write_lines.proofs.Answers.{piece_is}
@@ -71,12 +71,12 @@ module _ (s : List ℕ) (at : ℕ) (r : Bool) (p : r ≡ spells (105 ∷ 100 ∷
     pub id-fits : length s < 2 ^ 64 → machine.Fits w64 (at + 3)
     id-fits l = omega (arith, headed-there 105 (100 ∷ 9 ∷ []) s at identified refl r p y (at + 3) refl)
 
-    module _ (l : tail.tail_reader) (L : l ≡ tail_at Identifier s (at + 3)) where
+    module _ (l : tail.Tail) (L : l ≡ tail_at Identifier s (at + 3)) where
       t : TailEnd s (at + 3) l.end
-      t = tail-ends s (at + 3) l.end (ap (λ (x : tail.tail_reader). x.end) L)
+      t = tail-ends s (at + 3) l.end (ap (λ (x : tail.Tail). x.end) L)
 
       q : l.bare ≡ whole (run (in_test Identifier)) (text_of (drop (at + 3) s))
-      q = ap (λ (x : tail.tail_reader). x.bare) L
+      q = ap (λ (x : tail.Tail). x.bare) L
 
       pub id-untailed : (old : List ℕ) (to : ℕ) → l.end ≡ at + 3 → PiecePut id_entry s at old to old (record { end = at; next = to })
       unfolding id_entry tail_reader
@@ -100,12 +100,12 @@ module _ (s : List ℕ) (at : ℕ) (r : Bool) (p : r ≡ spells (114 ∷ 9 ∷ [
     pub reason-fits : length s < 2 ^ 64 → machine.Fits w64 (at + 2)
     reason-fits l = omega (arith, headed-there 114 (9 ∷ []) s at reasoned refl r p y (at + 2) refl)
 
-    module _ (l : tail.tail_reader) (L : l ≡ tail_at Token s (at + 2)) where
+    module _ (l : tail.Tail) (L : l ≡ tail_at Token s (at + 2)) where
       tail-is : TailEnd s (at + 2) l.end
-      tail-is = tail-ends s (at + 2) l.end (ap (λ (x : tail.tail_reader). x.end) L)
+      tail-is = tail-ends s (at + 2) l.end (ap (λ (x : tail.Tail). x.end) L)
 
       bare-is : l.bare ≡ whole (run (in_test Token)) (text_of (drop (at + 2) s))
-      bare-is = ap (λ (x : tail.tail_reader). x.bare) L
+      bare-is = ap (λ (x : tail.Tail). x.bare) L
 
       pub reason-untailed : (old : List ℕ) (to : ℕ) → l.end ≡ at + 2 → PiecePut reason_entry s at old to old (record { end = at; next = to })
       unfolding reason_entry tail_reader

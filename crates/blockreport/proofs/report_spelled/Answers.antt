@@ -13,4 +13,5 @@ pub slice_bounds-report_by-end : goal.slice_bounds-report_by-end
 slice_bounds-report_by-end c = sym (length-take-le _ _ (fits-own c.args.list.now _ _ _ c.spell_list-n.ensures c.spelled-own.ensures.value_2))
 
 pub returns : goal.returns
-returns c = answer-spelled c.args.list.now _ _ _ c.spell_list-n.ensures c.spelled-own.ensures.value_2 _ c.args.s.now c.args.out.now _ _ c.report_by.ensures
+returns c =
+    record { value = (answer-spelled c.args.list.now _ _ _ c.spell_list-n.ensures c.spelled-own.ensures.value_2 _ c.args.s.now c.args.out.now _ _ c.report_by.ensures).0; out_after = (answer-spelled c.args.list.now _ _ _ c.spell_list-n.ensures c.spelled-own.ensures.value_2 _ c.args.s.now c.args.out.now _ _ c.report_by.ensures).1 }

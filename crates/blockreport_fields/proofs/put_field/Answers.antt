@@ -5,7 +5,9 @@ use Rattle.blockreport_fields.proofs.Bodies.{this-name, other_name}
 use Rattle.blockreport_fields.proofs.put_field.Goals as goal
 
 pub returns-then-same_text : goal.returns-then-same_text
-returns-then-same_text c = this-name _ _ _ _ _ _ c.same_text.ensures _ _ c.if-same_text.true _ c.whose_spelled.ensures _ _ c.put_body.ensures
+returns-then-same_text c =
+    record { value = (this-name _ _ _ _ _ _ c.same_text.ensures _ _ c.if-same_text.true _ c.whose_spelled.ensures _ _ c.put_body.ensures).0; out_after = (this-name _ _ _ _ _ _ c.same_text.ensures _ _ c.if-same_text.true _ c.whose_spelled.ensures _ _ c.put_body.ensures).1 }
 
 pub returns : goal.returns
-returns c = other_name _ _ _ _ _ _ c.same_text.ensures _ _ c.if-same_text.false (omega arith)
+returns c =
+    record { value = (other_name _ _ _ _ _ _ c.same_text.ensures _ _ c.if-same_text.false (omega arith)).0; out_after = (other_name _ _ _ _ _ _ c.same_text.ensures _ _ c.if-same_text.false (omega arith)).1 }

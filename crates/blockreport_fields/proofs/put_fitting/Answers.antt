@@ -4,7 +4,9 @@ use Rattle.blockreport_fields.proofs.Bodies.{copy-out, copy-put}
 use Rattle.blockreport_fields.proofs.put_fitting.Goals as goal
 
 pub returns-then-text-rest : goal.returns-then-text-rest
-returns-then-text-rest c = copy-out _ _ _ _ c.rest.ensures c.if-text-rest.true _ c.sum.ensures
+returns-then-text-rest c =
+    record { value = (copy-out _ _ _ _ c.rest.ensures c.if-text-rest.true _ c.sum.ensures).0; out_after = (copy-out _ _ _ _ c.rest.ensures c.if-text-rest.true _ c.sum.ensures).1 }
 
 pub returns : goal.returns
-returns c = copy-put _ _ _ _ c.rest.ensures c.if-text-rest.false _ _ c.put_part.ensures
+returns c =
+    record { value = (copy-put _ _ _ _ c.rest.ensures c.if-text-rest.false _ _ c.put_part.ensures).0; out_after = (copy-put _ _ _ _ c.rest.ensures c.if-text-rest.false _ _ c.put_part.ensures).1 }

@@ -7,4 +7,5 @@ pub put_report-requires : goal.put_report-requires
 put_report-requires c = long-size _ _ c.measure-m.ensures
 
 pub returns : goal.returns
-returns c = long-put _ _ c.measure-m.ensures _ _ _ _ _ _ _ _ (search rules) c.put_line-at.ensures c.put_report.ensures
+returns c =
+    record { value = (long-put _ _ c.measure-m.ensures _ _ _ _ _ _ _ _ (search rules) c.put_line-at.ensures c.put_report.ensures).0; out_after = (long-put _ _ c.measure-m.ensures _ _ _ _ _ _ _ _ (search rules) c.put_line-at.ensures c.put_report.ensures).1 }

@@ -1,5 +1,4 @@
 -- `blockreport_lines::put_id_from` meets its contract: with no room left the line is measured, and else the rest of the buffer is lent.
-use borrow.Author.Rules.{rules}
 use Rattle.blockreport_lines.proofs.Identifiers.{text_out, text-behind}
 use Rattle.blockreport_lines.proofs.put_id_from.Goals as goal
 

@@ -1,5 +1,4 @@
 -- `blockreport_lines::put_identifier` meets its contract: of an identifier that was found its line, and else nothing.
-use borrow.Author.Rules.{rules}
 use native.Mathlib.Omega.{arith}
 use mathlib.Core.Path.{sym, ◌∙◌}
 use Rattle.blockreport_lines.proofs.Identifiers.{line-none, line-found}

@@ -1,5 +1,4 @@
 -- `blockreport_lines::put_whose` meets its contract: each arm writes the word of its case.
-use borrow.Author.Rules.{rules}
 use Rattle.blockreport_lines.proofs.Lines.{ours-put, others_put, unreadable-put}
 use Rattle.blockreport_lines.proofs.put_whose.Goals as goal
 

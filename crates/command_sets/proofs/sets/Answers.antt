@@ -1,8 +1,6 @@
-use Prim.Native.Nat.{◌-◌}
 use native.Mathlib.Omega.{arith}
 use mathlib.Core.Path.{refl}
-use borrow.Author.Rules.{rules}
-use Rattle.command_sets.proofs.ByJudging.{From, from_start, zeros-long, from_told, from_more, from-done}
+use Rattle.command_sets.proofs.ByJudging.{from_start, zeros-long, from_told, from_more, from-done}
 use Rattle.command_sets.proofs.sets.Goals as goal
 
 pub loop-n-init : goal.loop-n-init

@@ -1,9 +1,6 @@
 -- `command_sets::sets` meets its contract: what is not refused tells the sets, and each refusal that there are more of them.
 use Prim.Native.Nat.{◌-◌}
-use native.Mathlib.Omega.{arith}
-use mathlib.Core.Path.{refl}
-use borrow.Author.Rules.{rules}
-use Rattle.command_sets.proofs.ByJudging.{From, from_start, zeros-long, from_told, from_more, from-done}
+use Rattle.command_sets.proofs.ByJudging.{From}
 use Rattle.command_sets.proofs.sets.Given as goal
 
 abbrev pub invariant-loop-n : goal.invariant-loop-n

@@ -4,5 +4,6 @@ use borrow.Author.Rules.{rules}
 use Rattle.command_subcommands.proofs.report_block.Goals as goal
 
 pub returns : goal.returns
-returns c = let x = c.args in
-    report-makes x.block.now x.list.now x.out.now _ c.report_block-a.result c.made_of.result c.report_block-a.ensures.value c.report_block-a.ensures.out_after c.made_of.ensures
+returns c =
+    let x = c.args in
+    record { value = (report-makes x.block.now x.list.now x.out.now _ c.report_block-a.result c.made_of.result c.report_block-a.ensures.value c.report_block-a.ensures.out_after c.made_of.ensures).0; out_after = (report-makes x.block.now x.list.now x.out.now _ c.report_block-a.result c.made_of.result c.report_block-a.ensures.value c.report_block-a.ensures.out_after c.made_of.ensures).1 }

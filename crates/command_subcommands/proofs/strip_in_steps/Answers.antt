@@ -7,7 +7,8 @@ use Rattle.strip_steps_laws.proofs.Calls.{steps-room, steps-refused, steps-copie
 use Rattle.command_subcommands.proofs.strip_in_steps.Goals as goal
 
 pub returns-then-m-ne-DONE : goal.returns-then-m-ne-DONE
-returns-then-m-ne-DONE c = steps-refused c.args.block.now c.args.list.now c.marks-marks.result _ _ c.mark-m.ensures.value c.mark-m.ensures.out_after (omega (arith, c.marks-marks.ensures.value_2)) c.if-m-ne-DONE.true c.args.out.now _ refl
+returns-then-m-ne-DONE c =
+    record { value = (steps-refused c.args.block.now c.args.list.now c.marks-marks.result _ _ c.mark-m.ensures.value c.mark-m.ensures.out_after (omega (arith, c.marks-marks.ensures.value_2)) c.if-m-ne-DONE.true c.args.out.now _ refl).0; out_after = (steps-refused c.args.block.now c.args.list.now c.marks-marks.result _ _ c.mark-m.ensures.value c.mark-m.ensures.out_after (omega (arith, c.marks-marks.ensures.value_2)) c.if-m-ne-DONE.true c.args.out.now _ refl).1 }
 
 pub slice_bounds-marks-end : goal.slice_bounds-marks-end
 slice_bounds-marks-end c = steps-room c.args.block.now c.args.list.now c.marks-marks.result _ _ c.mark-m.ensures.value c.mark-m.ensures.out_after (omega (arith, c.marks-marks.ensures.value_2))
@@ -16,4 +17,5 @@ pub slice_bounds-copy-end : goal.slice_bounds-copy-end
 slice_bounds-copy-end c = sym (length-take-le _ _ (steps-room c.args.block.now c.args.list.now c.marks-marks.result _ _ c.mark-m.ensures.value c.mark-m.ensures.out_after (omega (arith, c.marks-marks.ensures.value_2))))
 
 pub returns : goal.returns
-returns c = steps-copied c.args.block.now c.args.list.now c.marks-marks.result _ _ c.mark-m.ensures.value c.mark-m.ensures.out_after (omega (arith, c.marks-marks.ensures.value_2)) c.if-m-ne-DONE.false c.args.out.now _ _ c.copy.ensures
+returns c =
+    record { value = (steps-copied c.args.block.now c.args.list.now c.marks-marks.result _ _ c.mark-m.ensures.value c.mark-m.ensures.out_after (omega (arith, c.marks-marks.ensures.value_2)) c.if-m-ne-DONE.false c.args.out.now _ _ c.copy.ensures).0; out_after = (steps-copied c.args.block.now c.args.list.now c.marks-marks.result _ _ c.mark-m.ensures.value c.mark-m.ensures.out_after (omega (arith, c.marks-marks.ensures.value_2)) c.if-m-ne-DONE.false c.args.out.now _ _ c.copy.ensures).1 }

@@ -1,6 +1,5 @@
 -- `explain_lines::put_method` meets its contract: the parts one after another are the whole line.
 use Rattle.explain_lines.proofs.Words.{method-put}
-use borrow.Author.Rules.{rules}
 use Rattle.explain_lines.proofs.put_method.Goals as goal
 
 pub returns : goal.returns

@@ -1,7 +1,6 @@
 -- `explain_lines::put_named` meets its contract: the label, and then the column.
 use native.Mathlib.Omega.{arith}
 use Rattle.explain_lines.proofs.Words.{named_put}
-use borrow.Author.Rules.{rules}
 use Rattle.explain_lines.proofs.put_named.Goals as goal
 
 pub returns : goal.returns

@@ -1,7 +1,6 @@
 -- `explain_lines::put_words` meets its contract: each arm writes the words of its kind.
 use native.Mathlib.Omega.{arith}
 use Rattle.explain_lines.proofs.Words.{field-words, identifier-words, version-words, no-result-words, method-words, reason-words, property-words, other-words}
-use borrow.Author.Rules.{rules}
 use Rattle.explain_lines.proofs.put_words.Goals as goal
 
 pub returns-in-Field : goal.returns-in-Field

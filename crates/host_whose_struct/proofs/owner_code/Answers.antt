@@ -1,6 +1,5 @@
 -- `host_whose_struct::owner_code` meets its contract: by the three cases of an owner.
 use mathlib.Core.Path.{sym, ap}
-use borrow.Author.Rules.{rules}
 use Rattle.host_whose_struct.specs.Whose.{owner_code}
 use Rattle.host_whose_struct.proofs.owner_code.Goals as goal
 

@@ -1,5 +1,4 @@
 -- `host_whose_struct::whose_face` meets its contract: by the owner's code.
-use borrow.Author.Rules.{rules}
 use Rattle.host_whose_struct.proofs.whose_face.Goals as goal
 
 pub returns : goal.returns

@@ -1,6 +1,5 @@
 -- `judgement_lines::put_columns` meets its contract: the two parts and the end of the line are the whole line.
 use Rattle.judgement_lines.proofs.Columns.{columns-put}
-use borrow.Author.Rules.{rules}
 use Rattle.judgement_lines.proofs.put_columns.Goals as goal
 
 pub returns : goal.returns

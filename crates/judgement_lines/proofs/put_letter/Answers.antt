@@ -1,6 +1,5 @@
 -- `judgement_lines::put_letter` meets its contract: the letter is a phrase of the text.
 use Rattle.judgement_lines.proofs.Columns.{letter-put}
-use borrow.Author.Rules.{rules}
 use Rattle.judgement_lines.proofs.put_letter.Goals as goal
 
 pub returns : goal.returns

@@ -1,6 +1,5 @@
 -- `judgement_lines::put_number` meets its contract: the tab, and then the digits.
 use Rattle.judgement_lines.proofs.Columns.{number_put}
-use borrow.Author.Rules.{rules}
 use Rattle.judgement_lines.proofs.put_number.Goals as goal
 
 pub returns : goal.returns

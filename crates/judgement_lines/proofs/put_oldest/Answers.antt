@@ -1,6 +1,5 @@
 -- `judgement_lines::put_oldest` meets its contract: there is one where the status is pass.
 use Rattle.judgement_lines.proofs.Columns.{oldest-some, oldest-none}
-use borrow.Author.Rules.{rules}
 use Rattle.judgement_lines.proofs.put_oldest.Goals as goal
 
 pub returns-then-status-eq1 : goal.returns-then-status-eq1

@@ -1,6 +1,5 @@
 -- `judgement_lines::put_outcome` meets its contract: the word is a phrase of the text.
 use Rattle.judgement_lines.proofs.Columns.{outcome-put}
-use borrow.Author.Rules.{rules}
 use Rattle.judgement_lines.proofs.put_outcome.Goals as goal
 
 pub returns : goal.returns

@@ -1,6 +1,5 @@
 -- `judgement_lines::put_status` meets its contract: the word is a phrase of the text.
 use Rattle.judgement_lines.proofs.Columns.{status-put}
-use borrow.Author.Rules.{rules}
 use Rattle.judgement_lines.proofs.put_status.Goals as goal
 
 pub returns : goal.returns

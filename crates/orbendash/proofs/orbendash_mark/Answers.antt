@@ -6,5 +6,6 @@ use borrow.Author.Rules.{rules}
 use Rattle.orbendash.proofs.orbendash_mark.Goals as goal
 
 pub returns : goal.returns
-returns c = let x = c.args in
-    (mark-faced _ _ (mark x.s.now x.list.now (length x.out.now)) c.mark.ensures.value c.mark_face.ensures, search rules)
+returns c =
+    let x = c.args in
+    record { value = ((mark-faced _ _ (mark x.s.now x.list.now (length x.out.now)) c.mark.ensures.value c.mark_face.ensures, search rules)).0; out_after = ((mark-faced _ _ (mark x.s.now x.list.now (length x.out.now)) c.mark.ensures.value c.mark_face.ensures, search rules)).1 }

@@ -1,7 +1,6 @@
 -- `ownlist_ready::readiness` meets its contract: one law for each way out.
 use mathlib.Core.Path.{sym, ◌∙◌}
 use mathlib.Core.Bool.{true, false}
-use borrow.Author.Rules.{rules}
 use Rattle.ownlist_ready.proofs.CallsGoOn.{answer-1, answer-5, answer-good}
 use Rattle.ownlist_ready.proofs.readiness.Goals as goal
 

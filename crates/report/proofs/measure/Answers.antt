@@ -3,7 +3,6 @@ use mathlib.Core.Path.{sym, ◌∙◌}
 use mathlib.Core.List.{[]}
 use Rattle.report.proofs.Ends.{told-room}
 use Rattle.report.proofs.Measures.{measured-1, measured-7, measured-told}
-use borrow.Author.Rules.{rules}
 use Rattle.report.proofs.measure.Goals as goal
 
 pub returns-then-too_long : goal.returns-then-too_long

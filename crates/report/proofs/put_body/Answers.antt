@@ -1,6 +1,5 @@
 -- `report::put_body` meets its contract: the line of the identifier, and what stands behind it.
 use Rattle.report.proofs.Heads.{body-room, body-said}
-use borrow.Author.Rules.{rules}
 use Rattle.report.proofs.put_body.Goals as goal
 
 pub put_headed-requires : goal.put_headed-requires

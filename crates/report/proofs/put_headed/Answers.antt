@@ -1,9 +1,6 @@
 -- `report::put_headed` meets its contract: header version 1 or none, or another one, by what is found.
-use mathlib.Core.Path.{◌≡◌, sym, ◌∙◌}
-use Rattle.identifier.specs.declared.version.Version.TheVariants.{Absent, Stated}
-use Rattle.identifier.specs.VersionAnswers.{version_at}
+use mathlib.Core.Path.{sym, ◌∙◌}
 use Rattle.report.proofs.Heads.{one-stated, other-room, other-stated, absent-stated}
-use borrow.Author.Rules.{rules}
 use Rattle.report.proofs.put_headed.Goals as goal
 
 pub returns-then-is_one : goal.returns-then-is_one

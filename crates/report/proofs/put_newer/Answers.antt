@@ -1,6 +1,5 @@
 -- `report::put_newer` meets its contract: the line of the version, where what has to follow the head follows it.
 use Rattle.report.proofs.Heads.{newer-stated, newer-shut}
-use borrow.Author.Rules.{rules}
 use Rattle.report.proofs.put_newer.Goals as goal
 
 pub returns-then-delimited : goal.returns-then-delimited

@@ -1,7 +1,6 @@
 -- `report::put_payload` meets its contract: the word none is the only reading where it is there, and else the list of results is, where
 -- it is not empty and the end follows.
 use Rattle.report.proofs.Payloads.{payload-word, payload-room, payload-no-results, payload-not-ended, payload-results}
-use borrow.Author.Rules.{rules}
 use Rattle.report.proofs.put_payload.Goals as goal
 
 pub returns-then-says_none : goal.returns-then-says_none

@@ -1,6 +1,5 @@
 -- `report::put_version_one` meets its contract: what has to follow the head follows it, or the body is not well-formed.
 use Rattle.report.proofs.Heads.{first-payload, first-shut}
-use borrow.Author.Rules.{rules}
 use Rattle.report.proofs.put_version_one.Goals as goal
 
 pub returns-then-delimited : goal.returns-then-delimited

@@ -1,7 +1,6 @@
 -- `report::says_none` meets its contract: the tests that the code makes in turn are those of the grammar.
 use Rattle.result_separators.proofs.Separators.{word-inside}
 use Rattle.report.proofs.Payloads.{none-no-separator, none_no_word, none-other-word, none-word}
-use borrow.Author.Rules.{rules}
 use Rattle.report.proofs.says_none.Goals as goal
 
 pub returns-then-a-at : goal.returns-then-a-at

@@ -1,6 +1,5 @@
 -- `report_results::put_details` meets its contract: the reason, and then the properties behind it.
 use Rattle.report_results.proofs.Turns.{details-put}
-use borrow.Author.Rules.{rules}
 use Rattle.report_results.proofs.put_details.Goals as goal
 
 pub put_properties-requires : goal.put_properties-requires

@@ -1,8 +1,6 @@
 -- `report_results::put_result` meets its contract: the method and what stands behind it are the result.
-use mathlib.Core.Path.{◌≡◌, sym, ◌∙◌}
+use mathlib.Core.Path.{sym, ◌∙◌}
 use borrow.Author.Rules.{rules}
-use Rattle.result_method.specs.declared.Method.TheVariants.{Read}
-use Rattle.result_method.specs.Methods.{method_at}
 use Rattle.report_results.proofs.Turns.{turn-missing, lines-missing, lines-read, turn-read}
 use Rattle.report_results.proofs.put_result.Goals as goal
 

@@ -1,9 +1,6 @@
-use Prim.Native.Nat.{◌-◌}
 use native.Mathlib.Omega.{arith}
-use lib.ListN.{length}
-use borrow.Author.Rules.{rules}
 use Rattle.base_sequences.proofs.Clips.{clipped-long}
-use Rattle.strip_copy.proofs.Unmarked.{Cutting, cut-start, cut-kept, cut-gone, cut-done}
+use Rattle.strip_copy.proofs.Unmarked.{cut-start, cut-kept, cut-gone, cut-done}
 use Rattle.strip_copy.proofs.put_unmarked.Goals as goal
 
 pub loop-k-init : goal.loop-k-init

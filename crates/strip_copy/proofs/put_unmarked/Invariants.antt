@@ -1,10 +1,7 @@
 -- `strip_copy::put_unmarked` meets its contract: at each turn what was written and what is left make the whole.
 use Prim.Native.Nat.{◌-◌}
-use native.Mathlib.Omega.{arith}
 use lib.ListN.{length}
-use borrow.Author.Rules.{rules}
-use Rattle.base_sequences.proofs.Clips.{clipped-long}
-use Rattle.strip_copy.proofs.Unmarked.{Cutting, cut-start, cut-kept, cut-gone, cut-done}
+use Rattle.strip_copy.proofs.Unmarked.{Cutting}
 use Rattle.strip_copy.proofs.put_unmarked.Given as goal
 
 abbrev pub invariant-loop-k : goal.invariant-loop-k

@@ -1,6 +1,5 @@
 -- `strip_fields::is_removed` meets its contract: each test is one of the definition.
 use Rattle.strip_fields.proofs.Goes.{other_name, this-name}
-use borrow.Author.Rules.{rules}
 use Rattle.strip_fields.proofs.is_removed.Goals as goal
 
 pub returns-then-same_text : goal.returns-then-same_text

@@ -1,14 +1,7 @@
-use Prim.Native.Nat.{◌-◌}
 use native.Mathlib.Omega.{arith}
-use mathlib.Core.Path.{◌≡◌, sym, ◌∙◌}
-use borrow.Author.Rules.{rules}
-use lib.ListN.{length, drop}
-use Rattle.block.specs.declared.Next.TheVariants.{Field}
-use Rattle.block.specs.Steps.{next_from}
-use Rattle.block.proofs.Steps.{Cut, step_field}
-use Rattle.ownlist_rules.specs.Spelled.{among_spelled}
-use Rattle.ownlist_rules.specs.Ends.{cut_at}
-use Rattle.strip_fields.proofs.Sifting.{Sifting, sift-start, sift-end, sift-refused, sift-gone, sift-kept}
+use mathlib.Core.Path.{sym, ◌∙◌}
+use Rattle.block.proofs.Steps.{step_field}
+use Rattle.strip_fields.proofs.Sifting.{sift-start, sift-end, sift-refused, sift-gone, sift-kept}
 use Rattle.strip_fields.proofs.sift.Goals as goal
 
 pub loop-start-init : goal.loop-start-init

@@ -1,15 +1,9 @@
 -- `strip_fields::sift` meets its contract: at each turn what is left of the block answers as the whole, and what was kept is what is not left to keep.
 use Prim.Native.Nat.{◌-◌}
-use native.Mathlib.Omega.{arith}
-use mathlib.Core.Path.{◌≡◌, sym, ◌∙◌}
-use borrow.Author.Rules.{rules}
-use lib.ListN.{length, drop}
-use Rattle.block.specs.declared.Next.TheVariants.{Field}
-use Rattle.block.specs.Steps.{next_from}
-use Rattle.block.proofs.Steps.{Cut, step_field}
+use lib.ListN.{length}
 use Rattle.ownlist_rules.specs.Spelled.{among_spelled}
 use Rattle.ownlist_rules.specs.Ends.{cut_at}
-use Rattle.strip_fields.proofs.Sifting.{Sifting, sift-start, sift-end, sift-refused, sift-gone, sift-kept}
+use Rattle.strip_fields.proofs.Sifting.{Sifting}
 use Rattle.strip_fields.proofs.sift.Given as goal
 
 abbrev pub invariant-loop-start : goal.invariant-loop-start

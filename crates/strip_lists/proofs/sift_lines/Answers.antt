@@ -2,7 +2,6 @@
 use native.Mathlib.Omega.{arith}
 use mathlib.Core.Path.{sym}
 use lib.Seq.{length-take-le}
-use borrow.Author.Rules.{rules}
 use Rattle.base_sequences.proofs.Splices.{put-long}
 use Rattle.strip_lists.proofs.Ends.{sifts-lines}
 use Rattle.strip_lists.proofs.sift_lines.Goals as goal

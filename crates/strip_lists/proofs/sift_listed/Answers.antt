@@ -1,6 +1,5 @@
 -- `strip_lists::sift_listed` meets its contract: one law for each way out.
 use mathlib.Core.Path.{sym, ◌∙◌}
-use borrow.Author.Rules.{rules}
 use Rattle.strip_lists.proofs.Ends.{plain-room, sifts-refused, sifts-listed, sifts-plain}
 use Rattle.strip_lists.proofs.sift_listed.Goals as goal
 

@@ -1,7 +1,6 @@
 -- `strip_lists::sift_spelled` meets its contract: the list is spelled into a buffer that holds the longest.
 use mathlib.Core.Path.{sym}
 use lib.Seq.{length-take-le}
-use borrow.Author.Rules.{rules}
 use Rattle.ownlist_spelled.proofs.Fits.{fits-room, fits-own}
 use Rattle.strip_lists.proofs.Ends.{sifts-spelled, spelled-room}
 use Rattle.strip_lists.proofs.sift_spelled.Goals as goal

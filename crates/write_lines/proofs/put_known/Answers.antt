@@ -1,6 +1,5 @@
 -- `write_lines::put_known` meets its contract: each way out has its law in `Methods`.
 use Rattle.write_lines.proofs.Methods.{known-put}
-use borrow.Author.Rules.{rules}
 use Rattle.write_lines.proofs.put_known.Goals as goal
 
 pub returns : goal.returns

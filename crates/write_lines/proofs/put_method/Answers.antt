@@ -1,6 +1,5 @@
 -- `write_lines::put_method` meets its contract: each way out has its law in `Methods`.
 use Rattle.write_lines.proofs.Methods.{method-unlike, method-fits, method-first, method-inside, method-next, method-second, method-inside-second, method-last, method-unknown, method-put}
-use borrow.Author.Rules.{rules}
 use Rattle.write_lines.proofs.put_method.Goals as goal
 
 pub overflow_add-a : goal.overflow_add-a

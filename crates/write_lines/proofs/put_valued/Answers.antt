@@ -1,6 +1,5 @@
 -- `write_lines::put_valued` meets its contract: each way out has its law in `Properties`.
 use Rattle.write_lines.proofs.Properties.{valued_not, valued_fits, valued_one, valued-before, valued-inside, valued-put}
-use borrow.Author.Rules.{rules}
 use Rattle.write_lines.proofs.put_valued.Goals as goal
 
 pub returns-then-g-at : goal.returns-then-g-at

@@ -1,6 +1,5 @@
 -- `write_texts::put_local` meets its contract: each way out has its law in `Values`.
 use Rattle.write_texts.proofs.Values.{local-bare, local-quoted}
-use borrow.Author.Rules.{rules}
 use Rattle.write_texts.proofs.put_local.Goals as goal
 
 pub returns-then-is_bare : goal.returns-then-is_bare

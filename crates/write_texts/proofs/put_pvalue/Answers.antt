@@ -1,6 +1,5 @@
 -- `write_texts::put_pvalue` meets its contract: each way out has its law in `Values`.
 use Rattle.write_texts.proofs.Values.{value-token, value-text, value-mailbox, value-at}
-use borrow.Author.Rules.{rules}
 use Rattle.write_texts.proofs.put_pvalue.Goals as goal
 
 pub returns-then-k-eq116 : goal.returns-then-k-eq116

@@ -1,8 +1,5 @@
-use Rattle.write_texts.proofs.Texts.{Texting, texting-start, texting-long, texting-done, texting-more}
+use Rattle.write_texts.proofs.Texts.{texting-start, texting-long, texting-done, texting-more}
 use Rattle.write_columns.proofs.Codes.{text-turn, text-less}
-use borrow.Author.Rules.{rules}
-use lib.ListN.{length}
-use Prim.Native.Nat.{◌-◌}
 use Rattle.write_texts.proofs.put_text.Goals as goal
 
 pub loop-c-init : goal.loop-c-init

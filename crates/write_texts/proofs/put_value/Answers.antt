@@ -1,6 +1,5 @@
 -- `write_texts::put_value` meets its contract: each way out has its law in `Texts`.
 use Rattle.write_texts.proofs.Texts.{value-bare, value-quoted}
-use borrow.Author.Rules.{rules}
 use Rattle.write_texts.proofs.put_value.Goals as goal
 
 pub returns-then-bare : goal.returns-then-bare

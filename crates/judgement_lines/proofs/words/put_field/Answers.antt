@@ -1,6 +1,5 @@
 -- `judgement_lines::words::put_field` meets its contract: a reason names a field or none.
 use Rattle.judgement_lines.proofs.WordLaws.{field_put}
-use borrow.Author.Rules.{rules}
 use Rattle.judgement_lines.proofs.words.put_field.Goals as goal
 
 pub returns : goal.returns

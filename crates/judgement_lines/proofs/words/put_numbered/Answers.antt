@@ -1,6 +1,5 @@
 -- `judgement_lines::words::put_numbered` meets its contract: a phrase, and behind it the digits of a number other than 0.
 use Rattle.judgement_lines.proofs.WordLaws.{no_number, number_put}
-use borrow.Author.Rules.{rules}
 use Rattle.judgement_lines.proofs.words.put_numbered.Goals as goal
 
 pub returns-then-n-eq0 : goal.returns-then-n-eq0

@@ -1,6 +1,5 @@
 -- `judgement_lines::words::put_pass` meets its contract: one phrase or the other.
 use Rattle.judgement_lines.proofs.WordLaws.{pass-put}
-use borrow.Author.Rules.{rules}
 use Rattle.judgement_lines.proofs.words.put_pass.Goals as goal
 
 pub returns : goal.returns

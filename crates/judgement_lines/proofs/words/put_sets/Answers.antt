@@ -1,6 +1,5 @@
 -- `judgement_lines::words::put_sets` meets its contract: the digits, and behind them a phrase of the text.
 use Rattle.judgement_lines.proofs.WordLaws.{sets-put}
-use borrow.Author.Rules.{rules}
 use Rattle.judgement_lines.proofs.words.put_sets.Goals as goal
 
 pub returns : goal.returns

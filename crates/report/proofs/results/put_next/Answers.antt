@@ -1,6 +1,5 @@
 -- `report::results::put_next` meets its contract: the separator, and what stands behind it.
 use mathlib.Core.Path.{refl}
-use borrow.Author.Rules.{rules}
 use Rattle.report.proofs.Turns.{no-separator, turn-put}
 use Rattle.report.proofs.results.put_next.Goals as goal
 

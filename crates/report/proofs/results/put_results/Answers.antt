@@ -1,8 +1,5 @@
 use native.Mathlib.Omega.{arith}
-use Prim.Native.Nat.{◌-◌, ◌≤◌, ◌<◌}
-use lib.ListN.{length}
-use borrow.Author.Rules.{rules}
-use Rattle.report.proofs.Passes.{Passing, passing-start, passing-room, passing-further, passing-shown, passing-ignored, passed, passed-long}
+use Rattle.report.proofs.Passes.{passing-start, passing-room, passing-further, passing-shown, passing-ignored, passed, passed-long}
 use Rattle.report.proofs.results.put_results.Goals as goal
 
 pub loop-end-init : goal.loop-end-init

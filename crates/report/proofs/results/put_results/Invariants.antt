@@ -1,9 +1,7 @@
 -- `report::results::put_results` meets its contract: each turn reads one result more, and its lines stay where it is understood.
-use native.Mathlib.Omega.{arith}
-use Prim.Native.Nat.{◌-◌, ◌≤◌, ◌<◌}
+use Prim.Native.Nat.{◌-◌}
 use lib.ListN.{length}
-use borrow.Author.Rules.{rules}
-use Rattle.report.proofs.Passes.{Passing, passing-start, passing-room, passing-further, passing-shown, passing-ignored, passed, passed-long}
+use Rattle.report.proofs.Passes.{Passing}
 use Rattle.report.proofs.results.put_results.Given as goal
 
 abbrev pub invariant-loop-end : goal.invariant-loop-end
