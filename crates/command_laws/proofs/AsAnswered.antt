@@ -32,7 +32,7 @@ use Rattle.command_rules.specs.declared.Ending.TheVariants.{Done, Usage, ListClo
 use Rattle.command_list_rules.specs.Notices.{check_text}
 use Rattle.command_list_rules.proofs.Fits.{check-fits}
 use Rattle.command_sets.specs.Sets.{sets_of}
-use Rattle.command_output_rules.specs.Outputs.{Output, front, made_of, answered, said_of, said, worded, stripped_block, reported_block, explained_block, verdicts_refusal, checked_list, judged_block, written_body}
+use Rattle.command_output_rules.specs.Outputs.{Output, front, answered, said, worded, stripped_block, reported_block, explained_block, verdicts_refusal, checked_list, judged_block, written_body}
 use Rattle.command_output_rules.proofs.EndingCases.{made-refused, made-done, said_fits, worded-refused, worded-said}
 use Rattle.command_laws.proofs.JudgementRooms.{judgement-fits}
 use Rattle.command_laws.proofs.ExplainRooms.{explained-fits}

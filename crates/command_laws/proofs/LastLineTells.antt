@@ -27,7 +27,7 @@ use Rattle.command_list_rules.specs.Notices.{check_text}
 use Rattle.command_sets.specs.Sets.{sets_of}
 use Rattle.command_output_rules.specs.Outputs.{Output, verdicts_refusal, stripped_block, reported_block, lines_room, explained_block, checked_list, judged_block, written_body, ending_after}
 use Rattle.command_laws.specs.LastLine.{line_number, line_place, number_of, last_line, Tells}
-use Rattle.command_laws.proofs.AsAnswered.{AsAnswered, gives, refuses, done_code, verdicts-not-done, strip-answered, report-answered, explain-answered, check-answered, judge-answered, write-answered}
+use Rattle.command_laws.proofs.AsAnswered.{AsAnswered, done_code, verdicts-not-done, strip-answered, report-answered, explain-answered, check-answered, judge-answered, write-answered}
 use Rattle.command_laws.proofs.LastLines.{line-number, refusal-place, lines-refusal-place, verdicts-sets}
 
 -- a refusal is told as it is, whether a write went or not

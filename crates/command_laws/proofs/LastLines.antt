@@ -2,11 +2,11 @@
 -- number or place have the same line.
 use Prim.Native.Nat.{ℕ, zero, suc, ◌+◌, ◌*◌, ◌-◌, ◌/◌, ◌%◌, ◌≤◌, ◌<◌}
 use native.Mathlib.Omega.{arith}
-use mathlib.Core.Path.{◌≡◌, refl, sym, ap, ◌∙◌}
+use mathlib.Core.Path.{◌≡◌, refl, ◌∙◌}
 use mathlib.Core.Bool.{Bool, true, false}
 use mathlib.Core.List.{List, [], ◌∷◌, ◌++◌}
 use lib.Dec.{ltb, eqb}
-use lib.ListN.{length, take, drop}
+use lib.ListN.{take}
 use borrow.Author.Tests.{ltb-true, ltb-false, le-leb}
 use Rattle.base_readers.specs.Texts.{bytes, within}
 use Rattle.base_readers.specs.Readers.{run}
@@ -15,7 +15,7 @@ use Rattle.text_decimals_rules.proofs.DigitsTell.{decimal-told}
 use Rattle.command_rules.specs.declared.Ending.{Ending}
 use Rattle.command_rules.specs.declared.Ending.TheVariants.{Done, Usage, ListClosed, ListUnread, InputUnread, InputTooLong, OutputTooLong, Unwritten, VerdictsRefused, Refused, LinesRefused}
 use Rattle.command_rules.specs.Messages.{meaning, lines_meaning, opening, closing, ending_line}
-use Rattle.command_laws.specs.LastLine.{is_digit, number_ahead, line_number, last_number, line_place, number_of}
+use Rattle.command_laws.specs.LastLine.{is_digit, line_number, last_number, line_place, number_of}
 
 -- ==== digits
 

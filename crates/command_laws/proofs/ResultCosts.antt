@@ -10,7 +10,7 @@ use lib.ListN.{length, take, drop}
 use Rattle.base_sequences.proofs.Booleans.{and_left, and_right}
 use Rattle.base_readers.specs.Texts.{bytes, within, same}
 use Rattle.base_readers.specs.Readers.{run}
-use Rattle.base_readers.specs.Parsers.{got, Parser, ◌>>=◌, give, end, byte, text, optional, several}
+use Rattle.base_readers.specs.Parsers.{got, Parser, ◌>>=◌, give, end, byte, optional, several}
 use Rattle.base_readers.specs.Locality.{Within}
 use Rattle.base_readers.proofs.Sequencing.{bind_inv, give-inv, Perhaps, absent, present, optional-inv}
 use Rattle.base_readers.proofs.Bounds.{byte-within}

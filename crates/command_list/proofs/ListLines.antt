@@ -1,5 +1,5 @@
 -- The lines of a list, stored one after another, and what is said of a whole list. The premises are literally what a need is handed.
-use Prim.Native.Nat.{ℕ, zero, suc, ◌+◌, ◌≤◌, ◌<◌, ◌^◌, min}
+use Prim.Native.Nat.{ℕ, ◌+◌, ◌≤◌, ◌<◌, ◌^◌, min}
 use native.Mathlib.Numerals.{add-one}
 use native.Mathlib.Omega.{arith}
 use mathlib.Core.Path.{◌≡◌, refl, sym, ap, ◌∙◌}
@@ -9,7 +9,6 @@ use Rattle.base_sequences.specs.Stored.{Clipped}
 use Rattle.base_sequences.specs.Spans.{span}
 use Rattle.base_sequences.proofs.Clips.{clipped-then, Going, going_start, going_step, going_done}
 use Rattle.base_readers.specs.Readers.{run}
-use Rattle.base_readers.specs.Texts.{bytes}
 use Rattle.base_readers.specs.Lines.{lines_of}
 use Rattle.ownlist_rules.specs.OwnList.{own_list}
 use Rattle.ownlist_laws.proofs.Ends.{lines_none}

@@ -10,7 +10,6 @@ use lib.ListN.{length, take, drop, length-drop}
 use borrow.Author.Tests.{eq-eqb, ne_eqb}
 use Rattle.base_sequences.specs.Stored.{Clipped}
 use Rattle.base_sequences.proofs.Clips.{clipped-then}
-use Rattle.base_readers.specs.Texts.{bytes}
 use Rattle.base_readers.specs.Readers.{run}
 use Rattle.text_write.specs.Phrases.{start, phrase}
 use Rattle.command_rules.specs.Messages.{feeds, until_feed, fault_at, meaning, lines_meaning}

@@ -7,7 +7,6 @@ use Rattle.base_readers.specs.Texts.{bytes}
 use Rattle.base_readers.proofs.Cases.{copies}
 use Rattle.command_rules.specs.declared.Ending.{Ending}
 use Rattle.command_rules.specs.declared.Ending.TheVariants.{Done, OutputTooLong, Unwritten, VerdictsRefused, Refused, LinesRefused}
-use Rattle.command_output_rules.specs.declared.Made.{Made}
 use Rattle.command_output_rules.specs.Outputs.{Output, stripped_block, reported_block, explained_block, checked_list, judged_block, written_body, ending_after}
 use Rattle.command_output_rules.proofs.Unfolding.{opened}
 

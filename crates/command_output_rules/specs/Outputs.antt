@@ -2,7 +2,6 @@
 use Rattle.std.specs.Prelude.{ℕ, Bool, true, false, cond, List, ◌++◌, map, eqb, ltb, length, take, drop}
 use Rattle.ownlist_rules.specs.OwnList.{own_list}
 use Rattle.strip_rules.specs.Strip as stripping
-use Rattle.blockreport_rules.specs.declared.Detail.{Detail}
 use Rattle.blockreport_rules.specs.declared.Detail.TheVariants.{Reported, Identified}
 use Rattle.blockreport_rules.specs.BlockReport as reporting
 use Rattle.write_rules.specs.Compose as composing

@@ -11,7 +11,7 @@ use Rattle.base_readers.proofs.Texts.{same_refl, same-eq}
 use Rattle.lexis_rules.specs.Bytes.{lower, alike}
 use Rattle.punycode_rules.specs.Punycode.{basic}
 use Rattle.punycode_rules.specs.Unicode.{utf8s}
-use Rattle.punycode_rules.specs.Labels.{decoded, prefixed, labels, spelling, any_prefixed, double_hyphen}
+use Rattle.punycode_rules.specs.Labels.{decoded, prefixed, labels, spelling, any_prefixed}
 use Rattle.punycode_laws.proofs.SpellingTheorems.{spelling-plain, spelling-case, spelling-label}
 use Rattle.identifier_rules.specs.Identifier.{same_identifier}
 use Rattle.identifier_laws.proofs.Parts.{spelling-dot, lower-dot}

@@ -58,6 +58,11 @@ token-basic (x ∷ xs) = go (in_class Token x) refl (token-basic xs)
 
 -- ==== what was read is read
 
+-- a delimiter that follows is the first byte
+delimiter-front : (x : ℕ) (xs : List ℕ) → Follows (in_class Delimiter) (x ∷ xs) → in_class Delimiter x ≡ true
+unfolding follows
+delimiter-front x xs d = d
+
 -- where a run of the one class ends at a delimiter or at the end, so does one of the other
 run_wider : (xs : List ℕ) → Follows (in_class Delimiter) (drop (run (in_class Token) xs) xs) → run identifier_byte xs ≡ run (in_class Token) xs
 unfolding run
@@ -73,7 +78,7 @@ run_wider (x ∷ xs) f = go (in_class Token x) refl (run_wider xs)
     go false e ih =
         let a : run (in_class Token) (x ∷ xs) ≡ 0 = rw (run, e) in
         let d : Follows (in_class Delimiter) (x ∷ xs) = rw a at f in
-        let g : identifier_byte x ≡ false = delimiter-out x (unfold follows in d) in
+        let g : identifier_byte x ≡ false = delimiter-out x (delimiter-front x xs d) in
         let b : run identifier_byte (x ∷ xs) ≡ 0 = rw (run, g) in
         b ∙ sym a
 

@@ -1,7 +1,7 @@
 -- One result with the space and the ";" before it: what `report_results` reads and writes behind the separator is the result there.
 use Prim.Native.Nat.{ℕ, ◌+◌, ◌<◌, ◌^◌, min}
 use native.Mathlib.Omega.{arith}
-use mathlib.Core.Path.{◌≡◌, refl, sym, ap, ◌∙◌, subst}
+use mathlib.Core.Path.{◌≡◌, refl, sym, ◌∙◌, subst}
 use mathlib.Core.Bool.{Bool, true, false}
 use mathlib.Core.List.{List}
 use lib.ListN.{length, drop}

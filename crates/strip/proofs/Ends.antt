@@ -12,7 +12,7 @@ use Rattle.base_sequences.proofs.Splices.{sets-front, put_front}
 use Rattle.base_readers.specs.Texts.{same}
 use Rattle.base_readers.specs.Walks.{Walked}
 use Rattle.base_readers.proofs.Texts.{same-eq, same-long}
-use Rattle.block_rules.specs.Fields.{Field, fields, bytes_of}
+use Rattle.block_rules.specs.Fields.{Field, bytes_of}
 use Rattle.block_laws.proofs.Fields.{fields-fine, select-sum}
 use Rattle.ownlist_rules.specs.Calls.{or_refusal, or_short}
 use Rattle.ownlist_laws.proofs.CallCases.{or-short-short, or-short-fits}

@@ -1,5 +1,4 @@
 -- `block_walk::field_from` meets its contract: it is a step.
-use borrow.Author.Rules.{rules}
 use Rattle.block_walk.proofs.field_from.Goals as goal
 
 pub returns : goal.returns

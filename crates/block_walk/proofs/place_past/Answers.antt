@@ -1,5 +1,4 @@
 -- `block_walk::place_past` meets its contract: by the two cases of a step.
-use borrow.Author.Rules.{rules}
 use mathlib.Core.Path.{sym, ap, ◌∙◌}
 use Rattle.block_walk_rules.specs.Steps.{past_of}
 use Rattle.block_walk.proofs.place_past.Goals as goal

@@ -1,14 +1,7 @@
 use native.Mathlib.Omega.{arith}
-use borrow.Author.Rules.{rules}
-use Prim.Native.Nat.{◌-◌}
-use mathlib.Core.Path.{◌≡◌, refl, sym, ◌∙◌}
-use lib.ListN.{length, drop}
-use Rattle.block.specs.declared.Next.TheVariants.{Field}
-use Rattle.block.specs.Steps.{next_from}
-use Rattle.block.proofs.Steps.{Cut, step_field}
-use Rattle.base_readers.specs.Lines.{lines_of}
-use Rattle.ownlist_rules.specs.Spelled.{own_of_spelled}
-use Rattle.blockreport.proofs.Passes.{Telling, telling-start, telling-end, telling-refused, telling-field}
+use mathlib.Core.Path.{refl, sym, ◌∙◌}
+use Rattle.block.proofs.Steps.{step_field}
+use Rattle.blockreport.proofs.Passes.{telling-start, telling-end, telling-refused, telling-field}
 use Rattle.blockreport.proofs.put_fields.Goals as goal
 
 pub loop-start-init : goal.loop-start-init
@@ -42,7 +35,7 @@ pub loop-start-smaller : goal.loop-start-smaller
 loop-start-smaller c = omega (arith, (step_field _ _ _ _ _ _ _ (sym c.in-Field.is ∙ c.next_field.ensures)), c.loop-start.invariant)
 
 pub loop-start-preserved : goal.loop-start-preserved
-loop-start-preserved c = telling-field _ _ _ _ _ _ _ _ c.loop-start.invariant _ _ _ _ (sym c.in-Field.is ∙ c.next_field.ensures) c.requires _ _ _ c.put_field-to.ensures refl
+loop-start-preserved c = telling-field _ _ _ _ _ _ _ _ c.loop-start.invariant _ _ _ _ (sym c.in-Field.is ∙ c.next_field.ensures) c.requires _ _ _ (c.put_field-to.ensures.value, c.put_field-to.ensures.out_after) refl
 
 pub shape_of-out-in-End : goal.shape_of-out-in-End
 shape_of-out-in-End c = c.loop-start.invariant.left.long

@@ -1,5 +1,4 @@
 -- `blockreport::report_block` meets its contract: one law for each way out.
-use borrow.Author.Rules.{rules}
 use mathlib.Core.Path.{sym, ◌∙◌}
 use Rattle.ownlist_ready.proofs.CallsGoOn.{as-it-stands-goes-on, to-spell-goes-on}
 use Rattle.blockreport.proofs.Ends.{answer-1-5, answer-listed, answer-plain}
@@ -17,8 +16,8 @@ returns-in-Refused c =
 
 pub returns-in-AsItStands : goal.returns-in-AsItStands
 returns-in-AsItStands c =
-    record { value = (answer-plain _ c.args.block.now c.args.list.now c.args.out.now _ _ (sym c.in-AsItStands.is ∙ c.readiness.ensures) c.report_by.ensures).0; out_after = (answer-plain _ c.args.block.now c.args.list.now c.args.out.now _ _ (sym c.in-AsItStands.is ∙ c.readiness.ensures) c.report_by.ensures).1 }
+    record { value = (answer-plain _ c.args.block.now c.args.list.now c.args.out.now _ _ (sym c.in-AsItStands.is ∙ c.readiness.ensures) (c.report_by.ensures.value, c.report_by.ensures.out_after)).0; out_after = (answer-plain _ c.args.block.now c.args.list.now c.args.out.now _ _ (sym c.in-AsItStands.is ∙ c.readiness.ensures) (c.report_by.ensures.value, c.report_by.ensures.out_after)).1 }
 
 pub returns-in-ToSpell : goal.returns-in-ToSpell
 returns-in-ToSpell c =
-    record { value = (answer-listed _ c.args.block.now c.args.list.now c.args.out.now _ _ (sym c.in-ToSpell.is ∙ c.readiness.ensures) c.report_spelled.ensures).0; out_after = (answer-listed _ c.args.block.now c.args.list.now c.args.out.now _ _ (sym c.in-ToSpell.is ∙ c.readiness.ensures) c.report_spelled.ensures).1 }
+    record { value = (answer-listed _ c.args.block.now c.args.list.now c.args.out.now _ _ (sym c.in-ToSpell.is ∙ c.readiness.ensures) (c.report_spelled.ensures.value, c.report_spelled.ensures.out_after)).0; out_after = (answer-listed _ c.args.block.now c.args.list.now c.args.out.now _ _ (sym c.in-ToSpell.is ∙ c.readiness.ensures) (c.report_spelled.ensures.value, c.report_spelled.ensures.out_after)).1 }

@@ -1,5 +1,4 @@
 -- `blockreport::report_by` meets its contract: one law for each way out.
-use borrow.Author.Rules.{rules}
 use Rattle.blockreport.proofs.Ends.{answer-2-4, answer-6, answer-copied, answer-written}
 use Rattle.blockreport.proofs.report_by.Goals as goal
 

@@ -1,5 +1,4 @@
 -- `blockreport_fields::put_detail` meets its contract: one law for each way out.
-use borrow.Author.Rules.{rules}
 use native.Mathlib.Omega.{arith}
 use Rattle.blockreport_fields.proofs.Bodies.{detail-other, detail-silent, detail-put}
 use Rattle.blockreport_fields.proofs.put_detail.Goals as goal

@@ -1,5 +1,4 @@
 -- `blockreport_fields::put_fitting` meets its contract: with too little room nothing is written, and else as much as there is room for is all of it.
-use borrow.Author.Rules.{rules}
 use Rattle.blockreport_fields.proofs.Bodies.{copy-out, copy-put}
 use Rattle.blockreport_fields.proofs.put_fitting.Goals as goal
 

@@ -8,4 +8,4 @@ put_report-requires c = long-size _ _ c.measure-m.ensures
 
 pub returns : goal.returns
 returns c =
-    record { value = (long-put _ _ c.measure-m.ensures _ _ _ _ _ _ _ _ (search rules) c.put_line-at.ensures c.put_report.ensures).0; out_after = (long-put _ _ c.measure-m.ensures _ _ _ _ _ _ _ _ (search rules) c.put_line-at.ensures c.put_report.ensures).1 }
+    record { value = (long-put _ _ c.measure-m.ensures _ _ _ _ _ _ _ _ (search rules) c.put_line-at.ensures (c.put_report.ensures.value, c.put_report.ensures.out_after)).0; out_after = (long-put _ _ c.measure-m.ensures _ _ _ _ _ _ _ _ (search rules) c.put_line-at.ensures (c.put_report.ensures.value, c.put_report.ensures.out_after)).1 }

@@ -1,5 +1,4 @@
 -- `blockreport_fields::put_report` meets its contract: with no room left nothing is written, and else the rest of the buffer is lent.
-use borrow.Author.Rules.{rules}
 use Rattle.blockreport_fields.proofs.Bodies.{report-out, report-put}
 use Rattle.blockreport_fields.proofs.put_report.Goals as goal
 

@@ -1,6 +1,5 @@
 -- `command_list::put_check` meets its contract: how the entries are compared, and then what is noticed.
 use Rattle.command_list.proofs.ListLines.{check-put}
-use borrow.Author.Rules.{rules}
 use Rattle.command_list.proofs.put_check.Goals as goal
 
 pub returns : goal.returns

@@ -1,9 +1,7 @@
-use Prim.Native.Nat.{◌-◌}
 use native.Mathlib.Omega.{arith}
 use borrow.Author.Rules.{rules}
-use lib.ListN.{length}
 use Rattle.explain.proofs.Lines.{line-to}
-use Rattle.command_list.proofs.ListLines.{Lines, lines_start, lines_more, lines-done}
+use Rattle.command_list.proofs.ListLines.{lines_start, lines_more, lines-done}
 use Rattle.command_list.proofs.put_lines.Goals as goal
 
 pub loop-i-init : goal.loop-i-init

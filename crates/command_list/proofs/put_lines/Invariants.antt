@@ -1,10 +1,7 @@
 -- `command_list::put_lines` meets its contract: at each turn the lines that are left, stored from there on, give what all lines give.
 use Prim.Native.Nat.{◌-◌}
-use native.Mathlib.Omega.{arith}
-use borrow.Author.Rules.{rules}
 use lib.ListN.{length}
-use Rattle.explain.proofs.Lines.{line-to}
-use Rattle.command_list.proofs.ListLines.{Lines, lines_start, lines_more, lines-done}
+use Rattle.command_list.proofs.ListLines.{Lines}
 use Rattle.command_list.proofs.put_lines.Given as goal
 
 abbrev pub invariant-loop-i : goal.invariant-loop-i

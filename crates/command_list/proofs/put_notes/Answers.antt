@@ -1,6 +1,5 @@
 -- `command_list::put_notes` meets its contract: the notes of a good list, and nothing of a bad one.
 use Rattle.command_list.proofs.ListLines.{notes-good, notes-bad}
-use borrow.Author.Rules.{rules}
 use Rattle.command_list.proofs.put_notes.Goals as goal
 
 pub returns-in-Good : goal.returns-in-Good

@@ -1,6 +1,5 @@
 -- `command_list::put_notices` meets its contract: without entries the one line, else the lines of all entries.
 use Rattle.command_list.proofs.ListLines.{notices-none, notices-put}
-use borrow.Author.Rules.{rules}
 use Rattle.command_list.proofs.put_notices.Goals as goal
 
 pub returns-then-list-eq0 : goal.returns-then-list-eq0

@@ -1,6 +1,5 @@
 -- `command_log::put_line` meets its contract: the line of a field that goes, and nothing of one that stays.
 use Rattle.command_log.proofs.LogLines.{line-goes, line_stays}
-use borrow.Author.Rules.{rules}
 use Rattle.command_log.proofs.put_line.Goals as goal
 
 pub returns-then-mark-eq1 : goal.returns-then-mark-eq1

@@ -1,12 +1,8 @@
 use native.Mathlib.Omega.{arith}
 use borrow.Author.Rules.{rules}
-use Prim.Native.Nat.{◌-◌}
-use mathlib.Core.Path.{◌≡◌, sym, ◌∙◌}
-use lib.ListN.{length, drop}
-use Rattle.block.specs.declared.Next.TheVariants.{Field}
-use Rattle.block.specs.Steps.{next_from}
-use Rattle.block.proofs.Steps.{Cut, step_field}
-use Rattle.command_log.proofs.LogLines.{Logging, logging-start, logging-end, logging-refused, logging-field}
+use mathlib.Core.Path.{sym, ◌∙◌}
+use Rattle.block.proofs.Steps.{step_field}
+use Rattle.command_log.proofs.LogLines.{logging-start, logging-end, logging-refused, logging-field}
 use Rattle.command_log.proofs.put_lines.Goals as goal
 
 pub loop-start-init : goal.loop-start-init

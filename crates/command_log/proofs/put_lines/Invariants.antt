@@ -1,13 +1,7 @@
 -- `command_log::put_lines` meets its contract: at each turn the lines of the fields that are left, stored from there on, give what all lines give.
-use native.Mathlib.Omega.{arith}
-use borrow.Author.Rules.{rules}
 use Prim.Native.Nat.{◌-◌}
-use mathlib.Core.Path.{◌≡◌, sym, ◌∙◌}
-use lib.ListN.{length, drop}
-use Rattle.block.specs.declared.Next.TheVariants.{Field}
-use Rattle.block.specs.Steps.{next_from}
-use Rattle.block.proofs.Steps.{Cut, step_field}
-use Rattle.command_log.proofs.LogLines.{Logging, logging-start, logging-end, logging-refused, logging-field}
+use lib.ListN.{length}
+use Rattle.command_log.proofs.LogLines.{Logging}
 use Rattle.command_log.proofs.put_lines.Given as goal
 
 abbrev pub invariant-loop-start : goal.invariant-loop-start

@@ -2,7 +2,6 @@
 use native.Mathlib.Omega.{arith}
 use mathlib.Core.Path.{sym}
 use lib.Seq.{length-take-le}
-use borrow.Author.Rules.{rules}
 use Rattle.strip_steps_laws.proofs.Calls.{steps-room}
 use Rattle.command_log.proofs.LogLines.{log-refused, log-marked}
 use Rattle.command_log.proofs.put_log.Goals as goal

@@ -1,6 +1,5 @@
 -- `command_message::put_opening` meets its contract: its parts one after another.
 use Rattle.command_message.proofs.Putting.{opening-put}
-use borrow.Author.Rules.{rules}
 use Rattle.command_message.proofs.put_opening.Goals as goal
 
 pub returns : goal.returns

@@ -1,7 +1,6 @@
 -- `command_message::told` meets its contract: the number of each ending.
 use mathlib.Core.Path.{sym, ap}
 use Rattle.command_message.specs.Internal.{told_by}
-use borrow.Author.Rules.{rules}
 use Rattle.command_message.proofs.told.Goals as goal
 
 pub returns-in-Done : goal.returns-in-Done

@@ -11,6 +11,9 @@ returns-in-Bad c =
 pub returns : goal.returns
 returns c =
     let x = c.args in
-    record { value = (check-makes x.list.now x.out.now c.check_list.result c.check_list.ensures c.in-Good.is _ _ _ (search rules) c.spell_list-n.ensures
-    _ _ _ c.said_of.result c.part.ensures c.put_check-m.ensures c.said_of.ensures).0; out_after = (check-makes x.list.now x.out.now c.check_list.result c.check_list.ensures c.in-Good.is _ _ _ (search rules) c.spell_list-n.ensures
-    _ _ _ c.said_of.result c.part.ensures c.put_check-m.ensures c.said_of.ensures).1 }
+    record {
+      value = (check-makes x.list.now x.out.now c.check_list.result c.check_list.ensures c.in-Good.is _ _ _ (search rules) c.spell_list-n.ensures
+          _ _ _ c.said_of.result c.part.ensures c.put_check-m.ensures c.said_of.ensures).0;
+      out_after = (check-makes x.list.now x.out.now c.check_list.result c.check_list.ensures c.in-Good.is _ _ _ (search rules) c.spell_list-n.ensures
+          _ _ _ c.said_of.result c.part.ensures c.put_check-m.ensures c.said_of.ensures).1;
+    }

@@ -11,6 +11,9 @@ returns-then-a-ne-DONE c =
 pub returns : goal.returns
 returns c =
     let x = c.args in
-    record { value = (explain-makes x.block.now x.list.now _ (search rules) c.report_block-a.result c.report_block-a.ensures.value _ _ c.report_block-a.ensures.out_after
-    c.if-a-ne-DONE.false _ x.out.now _ _ c.said_of.result c.part.ensures c.put_explained-n.ensures c.said_of.ensures).0; out_after = (explain-makes x.block.now x.list.now _ (search rules) c.report_block-a.result c.report_block-a.ensures.value _ _ c.report_block-a.ensures.out_after
-    c.if-a-ne-DONE.false _ x.out.now _ _ c.said_of.result c.part.ensures c.put_explained-n.ensures c.said_of.ensures).1 }
+    record {
+      value = (explain-makes x.block.now x.list.now _ (search rules) c.report_block-a.result c.report_block-a.ensures.value _ _ c.report_block-a.ensures.out_after
+          c.if-a-ne-DONE.false _ x.out.now _ _ c.said_of.result c.part.ensures c.put_explained-n.ensures c.said_of.ensures).0;
+      out_after = (explain-makes x.block.now x.list.now _ (search rules) c.report_block-a.result c.report_block-a.ensures.value _ _ c.report_block-a.ensures.out_after
+          c.if-a-ne-DONE.false _ x.out.now _ _ c.said_of.result c.part.ensures c.put_explained-n.ensures c.said_of.ensures).1;
+    }

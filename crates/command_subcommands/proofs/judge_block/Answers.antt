@@ -6,27 +6,35 @@ use Rattle.command_subcommands.proofs.judge_block.Goals as goal
 pub returns-then-j-ne-DONE : goal.returns-then-j-ne-DONE
 returns-then-j-ne-DONE c =
     let x = c.args in
-    record { value = (let w =
-    judge-refused x.block.now x.digits.now x.out.now _ c.read_verdicts.ensures c.judge-j.result c.judge-j.ensures c.if-j-ne-DONE.true _ c.sets.ensures
-    c.refusal_of.result c.refusal_of.ensures in
-    (w.0, (w.1, c.read_verdicts.ensures))).0; out_after = (let w =
-    judge-refused x.block.now x.digits.now x.out.now _ c.read_verdicts.ensures c.judge-j.result c.judge-j.ensures c.if-j-ne-DONE.true _ c.sets.ensures
-    c.refusal_of.result c.refusal_of.ensures in
-    (w.0, (w.1, c.read_verdicts.ensures))).1.0; digits_after = (let w =
-    judge-refused x.block.now x.digits.now x.out.now _ c.read_verdicts.ensures c.judge-j.result c.judge-j.ensures c.if-j-ne-DONE.true _ c.sets.ensures
-    c.refusal_of.result c.refusal_of.ensures in
-    (w.0, (w.1, c.read_verdicts.ensures))).1.1 }
+    record {
+      value = (let w =
+          judge-refused x.block.now x.digits.now x.out.now _ c.read_verdicts.ensures c.judge-j.result c.judge-j.ensures c.if-j-ne-DONE.true _ c.sets.ensures
+          c.refusal_of.result c.refusal_of.ensures in
+          (w.0, (w.1, c.read_verdicts.ensures))).0;
+      out_after = (let w =
+          judge-refused x.block.now x.digits.now x.out.now _ c.read_verdicts.ensures c.judge-j.result c.judge-j.ensures c.if-j-ne-DONE.true _ c.sets.ensures
+          c.refusal_of.result c.refusal_of.ensures in
+          (w.0, (w.1, c.read_verdicts.ensures))).1.0;
+      digits_after = (let w =
+          judge-refused x.block.now x.digits.now x.out.now _ c.read_verdicts.ensures c.judge-j.result c.judge-j.ensures c.if-j-ne-DONE.true _ c.sets.ensures
+          c.refusal_of.result c.refusal_of.ensures in
+          (w.0, (w.1, c.read_verdicts.ensures))).1.1;
+    }
 
 pub returns : goal.returns
 returns c =
     let x = c.args in
-    record { value = (let w =
-    judge-makes x.block.now x.digits.now x.out.now _ c.read_verdicts.ensures c.judge-j.result c.judge-j.ensures c.if-j-ne-DONE.false _ _
-    c.said_of.result c.put_judgement-n.ensures c.said_of.ensures in
-    (w.0, (w.1, c.read_verdicts.ensures))).0; out_after = (let w =
-    judge-makes x.block.now x.digits.now x.out.now _ c.read_verdicts.ensures c.judge-j.result c.judge-j.ensures c.if-j-ne-DONE.false _ _
-    c.said_of.result c.put_judgement-n.ensures c.said_of.ensures in
-    (w.0, (w.1, c.read_verdicts.ensures))).1.0; digits_after = (let w =
-    judge-makes x.block.now x.digits.now x.out.now _ c.read_verdicts.ensures c.judge-j.result c.judge-j.ensures c.if-j-ne-DONE.false _ _
-    c.said_of.result c.put_judgement-n.ensures c.said_of.ensures in
-    (w.0, (w.1, c.read_verdicts.ensures))).1.1 }
+    record {
+      value = (let w =
+          judge-makes x.block.now x.digits.now x.out.now _ c.read_verdicts.ensures c.judge-j.result c.judge-j.ensures c.if-j-ne-DONE.false _ _
+          c.said_of.result c.put_judgement-n.ensures c.said_of.ensures in
+          (w.0, (w.1, c.read_verdicts.ensures))).0;
+      out_after = (let w =
+          judge-makes x.block.now x.digits.now x.out.now _ c.read_verdicts.ensures c.judge-j.result c.judge-j.ensures c.if-j-ne-DONE.false _ _
+          c.said_of.result c.put_judgement-n.ensures c.said_of.ensures in
+          (w.0, (w.1, c.read_verdicts.ensures))).1.0;
+      digits_after = (let w =
+          judge-makes x.block.now x.digits.now x.out.now _ c.read_verdicts.ensures c.judge-j.result c.judge-j.ensures c.if-j-ne-DONE.false _ _
+          c.said_of.result c.put_judgement-n.ensures c.said_of.ensures in
+          (w.0, (w.1, c.read_verdicts.ensures))).1.1;
+    }

@@ -1,6 +1,5 @@
 -- `command_subcommands::report_block` meets its contract: what the call answered and wrote is what is made of it.
 use Rattle.command_subcommands.proofs.Making.{report-makes}
-use borrow.Author.Rules.{rules}
 use Rattle.command_subcommands.proofs.report_block.Goals as goal
 
 pub returns : goal.returns

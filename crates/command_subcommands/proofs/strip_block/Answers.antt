@@ -1,6 +1,5 @@
 -- `command_subcommands::strip_block` meets its contract: what the call answered and wrote is what is made of it.
 use Rattle.command_subcommands.proofs.Making.{strip-makes}
-use borrow.Author.Rules.{rules}
 use Rattle.command_subcommands.proofs.strip_block.Goals as goal
 
 pub returns : goal.returns

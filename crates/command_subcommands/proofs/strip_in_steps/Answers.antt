@@ -2,7 +2,6 @@
 use native.Mathlib.Omega.{arith}
 use mathlib.Core.Path.{refl, sym}
 use lib.Seq.{length-take-le}
-use borrow.Author.Rules.{rules}
 use Rattle.strip_steps_laws.proofs.Calls.{steps-room, steps-refused, steps-copied}
 use Rattle.command_subcommands.proofs.strip_in_steps.Goals as goal
 
@@ -18,4 +17,4 @@ slice_bounds-copy-end c = sym (length-take-le _ _ (steps-room c.args.block.now c
 
 pub returns : goal.returns
 returns c =
-    record { value = (steps-copied c.args.block.now c.args.list.now c.marks-marks.result _ _ c.mark-m.ensures.value c.mark-m.ensures.out_after (omega (arith, c.marks-marks.ensures.value_2)) c.if-m-ne-DONE.false c.args.out.now _ _ c.copy.ensures).0; out_after = (steps-copied c.args.block.now c.args.list.now c.marks-marks.result _ _ c.mark-m.ensures.value c.mark-m.ensures.out_after (omega (arith, c.marks-marks.ensures.value_2)) c.if-m-ne-DONE.false c.args.out.now _ _ c.copy.ensures).1 }
+    record { value = (steps-copied c.args.block.now c.args.list.now c.marks-marks.result _ _ c.mark-m.ensures.value c.mark-m.ensures.out_after (omega (arith, c.marks-marks.ensures.value_2)) c.if-m-ne-DONE.false c.args.out.now _ _ (c.copy.ensures.value, c.copy.ensures.out_after)).0; out_after = (steps-copied c.args.block.now c.args.list.now c.marks-marks.result _ _ c.mark-m.ensures.value c.mark-m.ensures.out_after (omega (arith, c.marks-marks.ensures.value_2)) c.if-m-ne-DONE.false c.args.out.now _ _ (c.copy.ensures.value, c.copy.ensures.out_after)).1 }

@@ -1,6 +1,5 @@
 -- `command_subcommands::write_body` meets its contract: what the call answered and wrote is what is made of it.
 use Rattle.command_subcommands.proofs.Making.{write-makes}
-use borrow.Author.Rules.{rules}
 use Rattle.command_subcommands.proofs.write_body.Goals as goal
 
 pub returns : goal.returns

@@ -1,6 +1,5 @@
 -- `command_words::asked` meets its contract: each test in turn is a case of the definition.
 use Rattle.command_rules.proofs.Lines.{asked-strip, asked-report, asked-explain, asked-judge, asked-check, asked-log, asked-neither, asked-other, asked-write, asked-unlisted}
-use borrow.Author.Rules.{rules}
 use Rattle.command_words.proofs.asked.Goals as goal
 
 pub returns-then-is_same : goal.returns-then-is_same

@@ -1,8 +1,8 @@
 -- `explain::goes_on` meets its contract: each arm is a case of the definition.
+use borrow.Enum.Refused.{opened}
 use mathlib.Core.Path.{sym, ap}
 use Rattle.explain_rules.specs.Explained.{goes_on}
 use Rattle.explain.proofs.Lines.{own_line}
-use borrow.Author.Rules.{rules}
 use Rattle.explain.proofs.goes_on.Goals as goal
 
 pub returns-in-Reason : goal.returns-in-Reason
@@ -14,4 +14,4 @@ unfolding goes_on
 returns-in-Property c = ap goes_on (sym c.in-Property.is)
 
 pub returns-in_default : goal.returns-in_default
-returns-in_default c = own_line _ c.in_default.in_default-own.keys3
+returns-in_default c = own_line _ (opened c.in_default.in_default-own.keys3)

@@ -1,6 +1,5 @@
 -- `explain::is_behind` meets its contract: no line has its end, and any other by what it is.
 use Rattle.explain.proofs.Lines.{line-to, behind-none, behind-by}
-use borrow.Author.Rules.{rules}
 use Rattle.explain.proofs.is_behind.Goals as goal
 
 pub returns-then-at-s : goal.returns-then-at-s

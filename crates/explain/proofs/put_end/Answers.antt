@@ -1,6 +1,5 @@
 -- `explain::put_end` meets its contract: what a line that stands behind says has no end before it.
 use Rattle.explain.proofs.Lines.{end_none, end-here}
-use borrow.Author.Rules.{rules}
 use Rattle.explain.proofs.put_end.Goals as goal
 
 pub returns-then-is_behind : goal.returns-then-is_behind

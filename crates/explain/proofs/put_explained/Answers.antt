@@ -1,6 +1,5 @@
 -- `explain::put_explained` meets its contract: without lines the one sentence, else the words of all lines.
 use Rattle.explain.proofs.Lines.{none-put, lines-put}
-use borrow.Author.Rules.{rules}
 use Rattle.explain.proofs.put_explained.Goals as goal
 
 pub returns-then-lines-eq0 : goal.returns-then-lines-eq0

@@ -1,10 +1,4 @@
-use Prim.Native.Nat.{◌-◌}
-use native.Mathlib.Omega.{arith}
-use lib.ListN.{length, drop}
 use borrow.Author.Rules.{rules}
-use Rattle.base_sequences.proofs.Clips.{Going}
-use Rattle.base_readers.specs.Lines.{lines_of}
-use Rattle.explain_rules.specs.Explained.{lines_words}
 use Rattle.explain.proofs.Lines.{line-to, lines_start, lines_more, lines-done}
 use Rattle.explain.proofs.put_lines.Goals as goal
 

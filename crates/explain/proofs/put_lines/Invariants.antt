@@ -1,12 +1,9 @@
 -- `explain::put_lines` meets its contract: at each turn the words of the lines that are left, stored from there on, give what those of all lines give.
 use Prim.Native.Nat.{◌-◌}
-use native.Mathlib.Omega.{arith}
 use lib.ListN.{length, drop}
-use borrow.Author.Rules.{rules}
 use Rattle.base_sequences.proofs.Clips.{Going}
 use Rattle.base_readers.specs.Lines.{lines_of}
 use Rattle.explain_rules.specs.Explained.{lines_words}
-use Rattle.explain.proofs.Lines.{line-to, lines_start, lines_more, lines-done}
 use Rattle.explain.proofs.put_lines.Given as goal
 
 abbrev pub invariant-loop-i : goal.invariant-loop-i

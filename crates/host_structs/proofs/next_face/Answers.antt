@@ -1,6 +1,5 @@
 -- `host_structs::next_face` meets its contract: by the two cases of a step.
 use mathlib.Core.Path.{sym, ap}
-use borrow.Author.Rules.{rules}
 use Rattle.host_structs.specs.Faces.{next_face}
 use Rattle.host_structs.proofs.next_face.Goals as goal
 

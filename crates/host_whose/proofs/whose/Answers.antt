@@ -1,6 +1,5 @@
 -- `host_whose::whose` meets its contract: one law for each way out.
 use mathlib.Core.Path.{sym, ◌∙◌}
-use borrow.Author.Rules.{rules}
 use Rattle.host_whose.proofs.Owners.{answer-1-5, answer-plain, answer-spelled}
 use Rattle.host_whose.proofs.whose.Goals as goal
 

@@ -1,9 +1,6 @@
-use Prim.Native.Nat.{◌-◌}
-use native.Mathlib.Omega.{arith}
-use mathlib.Core.Path.{◌≡◌, refl}
-use lib.ListN.{length}
+use mathlib.Core.Path.{refl}
 use borrow.Author.Rules.{rules}
-use Rattle.judgement.proofs.Words.{turned_digits, turned_more, turned-all}
+use Rattle.judgement.proofs.Words.{turned_more, turned-all}
 use Rattle.judgement.proofs.read_verdicts.Goals as goal
 
 pub loop-i-init : goal.loop-i-init

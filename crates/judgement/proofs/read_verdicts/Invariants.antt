@@ -1,10 +1,8 @@
 -- `judgement::read_verdicts` meets its contract: at each turn one digit more is a verdict.
 use Prim.Native.Nat.{◌-◌}
-use native.Mathlib.Omega.{arith}
-use mathlib.Core.Path.{◌≡◌, refl}
+use mathlib.Core.Path.{◌≡◌}
 use lib.ListN.{length}
-use borrow.Author.Rules.{rules}
-use Rattle.judgement.proofs.Words.{turned_digits, turned_more, turned-all}
+use Rattle.judgement.proofs.Words.{turned_digits}
 use Rattle.judgement.proofs.read_verdicts.Given as goal
 
 abbrev pub invariant-loop-i : goal.invariant-loop-i

@@ -8,4 +8,7 @@ use Rattle.orbendash.proofs.orbendash_copy.Goals as goal
 pub returns : goal.returns
 returns c =
     let x = c.args in
-    record { value = ((copy-faced _ _ (copy x.s.now x.list.now x.marks.now (length x.out.now)) c.copy.ensures.value c.copy_face.ensures, search rules)).0; out_after = ((copy-faced _ _ (copy x.s.now x.list.now x.marks.now (length x.out.now)) c.copy.ensures.value c.copy_face.ensures, search rules)).1 }
+    record {
+      value = copy-faced _ _ (copy x.s.now x.list.now x.marks.now (length x.out.now)) c.copy.ensures.value c.copy_face.ensures;
+      out_after = search rules;
+    }

@@ -8,4 +8,7 @@ use Rattle.orbendash.proofs.orbendash_mark.Goals as goal
 pub returns : goal.returns
 returns c =
     let x = c.args in
-    record { value = ((mark-faced _ _ (mark x.s.now x.list.now (length x.out.now)) c.mark.ensures.value c.mark_face.ensures, search rules)).0; out_after = ((mark-faced _ _ (mark x.s.now x.list.now (length x.out.now)) c.mark.ensures.value c.mark_face.ensures, search rules)).1 }
+    record {
+      value = mark-faced _ _ (mark x.s.now x.list.now (length x.out.now)) c.mark.ensures.value c.mark_face.ensures;
+      out_after = search rules;
+    }

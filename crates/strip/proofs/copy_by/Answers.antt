@@ -3,7 +3,6 @@ use mathlib.Core.Bool.{not}
 use native.Mathlib.Omega.{arith}
 use mathlib.Core.Path.{refl, sym, ap}
 use lib.Seq.{length-take-le}
-use borrow.Author.Rules.{rules}
 use Rattle.strip.proofs.Ends.{few, copy-refused, copy-other, copy-13, copy-6, copy-0, marks-room, stops-room}
 use Rattle.strip.proofs.copy_by.Goals as goal
 

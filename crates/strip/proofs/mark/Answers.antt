@@ -1,7 +1,6 @@
 -- `strip::mark` meets its contract: there is room for a mark of each field, and one law for each way out.
 use mathlib.Core.Path.{refl, sym}
 use lib.Seq.{length-take-le}
-use borrow.Author.Rules.{rules}
 use Rattle.strip.proofs.Ends.{mark-refused, mark-6, mark-0, marks-room, room-for-all}
 use Rattle.strip.proofs.mark.Goals as goal
 

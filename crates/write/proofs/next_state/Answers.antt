@@ -1,6 +1,5 @@
 -- `write::next_state` meets its contract: each way out has its law in `States`.
 use Rattle.write.proofs.States.{next-id, next-none, next-first, next-later, next-method, next-reason, next-again, next-property}
-use borrow.Author.Rules.{rules}
 use Rattle.write.proofs.next_state.Goals as goal
 
 pub returns-then-b-eq105 : goal.returns-then-b-eq105

@@ -1,7 +1,4 @@
-use Rattle.write.proofs.Passes.{Lining, lining-start, lining-long, lining-early, lining-done, lining-missing, lining-less, lining-fits, lining-stuck, lining-more}
-use borrow.Author.Rules.{rules}
-use lib.ListN.{length}
-use Prim.Native.Nat.{◌-◌}
+use Rattle.write.proofs.Passes.{lining-start, lining-long, lining-early, lining-done, lining-missing, lining-less, lining-fits, lining-stuck, lining-more}
 use Rattle.write.proofs.put_lines.Goals as goal
 
 pub loop-at-init : goal.loop-at-init
@@ -11,13 +8,13 @@ pub returns-then-r-at : goal.returns-then-r-at
 returns-then-r-at c = search lining-missing
 
 pub returns-then-t-eq-STUCK : goal.returns-then-t-eq-STUCK
-returns-then-t-eq-STUCK c = lining-stuck _ _ _ _ _ _ _ c.loop-at.invariant c.loop-at-test.true _ _ c.put_line-r.ensures c.if-r-at.false _ c.byte.ensures _ c.next_state-t.ensures c.if-t-eq-STUCK.true
+returns-then-t-eq-STUCK c = lining-stuck _ _ _ _ _ _ _ c.loop-at.invariant c.loop-at-test.true _ _ (c.put_line-r.ensures.value, c.put_line-r.ensures.out_after) c.if-r-at.false _ c.byte.ensures _ c.next_state-t.ensures c.if-t-eq-STUCK.true
 
 pub overflow_add-n : goal.overflow_add-n
-overflow_add-n c = search (lining-fits _ _ _ _ _ _ _ c.loop-at.invariant c.loop-at-test.true _ _ c.put_line-r.ensures c.if-r-at.false)
+overflow_add-n c = search (lining-fits _ _ _ _ _ _ _ c.loop-at.invariant c.loop-at-test.true _ _ (c.put_line-r.ensures.value, c.put_line-r.ensures.out_after) c.if-r-at.false)
 
 pub loop-at-smaller : goal.loop-at-smaller
-loop-at-smaller c = lining-less _ _ _ _ _ _ _ c.loop-at.invariant c.loop-at-test.true _ _ c.put_line-r.ensures c.if-r-at.false
+loop-at-smaller c = lining-less _ _ _ _ _ _ _ c.loop-at.invariant c.loop-at-test.true _ _ (c.put_line-r.ensures.value, c.put_line-r.ensures.out_after) c.if-r-at.false
 
 pub loop-at-preserved : goal.loop-at-preserved
 loop-at-preserved c = search lining-more

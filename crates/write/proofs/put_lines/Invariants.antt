@@ -1,6 +1,5 @@
 -- `write::put_lines` meets its contract: the loop keeps `Lining`, and each way out has its law.
-use Rattle.write.proofs.Passes.{Lining, lining-start, lining-long, lining-early, lining-done, lining-missing, lining-less, lining-fits, lining-stuck, lining-more}
-use borrow.Author.Rules.{rules}
+use Rattle.write.proofs.Passes.{Lining}
 use lib.ListN.{length}
 use Prim.Native.Nat.{◌-◌}
 use Rattle.write.proofs.put_lines.Given as goal

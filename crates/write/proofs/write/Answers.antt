@@ -2,7 +2,6 @@
 use Rattle.write.proofs.Ends.{answer-11, answer-1, answer-6, again-fits, answer-copied, answer-written}
 use mathlib.Core.Path.{sym}
 use lib.Seq.{length-take-le}
-use borrow.Author.Rules.{rules}
 use Rattle.write.proofs.write.Goals as goal
 
 pub returns-then-first-eq-NO_SUCH_REPORT : goal.returns-then-first-eq-NO_SUCH_REPORT

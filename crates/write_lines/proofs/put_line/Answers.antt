@@ -1,6 +1,5 @@
 -- `write_lines::put_line` meets its contract: each way out has its law in `Answers`.
 use Rattle.write_lines.proofs.Answers.{line-id, line-none, line-method, line-reason, line-property}
-use borrow.Author.Rules.{rules}
 use Rattle.write_lines.proofs.put_line.Goals as goal
 
 pub returns-then-b-eq105 : goal.returns-then-b-eq105

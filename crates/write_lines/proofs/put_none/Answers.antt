@@ -1,6 +1,5 @@
 -- `write_lines::put_none` meets its contract: each way out has its law in `Lines`.
 use Rattle.write_lines.proofs.Lines.{none-unlike, none-fits, none-put}
-use borrow.Author.Rules.{rules}
 use Rattle.write_lines.proofs.put_none.Goals as goal
 
 pub overflow_add-result : goal.overflow_add-result

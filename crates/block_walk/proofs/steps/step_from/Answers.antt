@@ -1,12 +1,7 @@
 use native.Mathlib.Omega.{arith}
-use borrow.Author.Rules.{rules}
-use Prim.Native.Nat.{◌-◌}
-use mathlib.Core.Path.{◌≡◌, sym, ◌∙◌}
-use lib.ListN.{length, drop}
-use Rattle.block.specs.declared.Next.TheVariants.{Field}
-use Rattle.block.specs.Steps.{next_from}
-use Rattle.block.proofs.Steps.{Cut, step_field}
-use Rattle.block_walk.proofs.Searching.{Searching, search-long, search-start, search-end, search-refused, search-found, search-on}
+use mathlib.Core.Path.{sym, ◌∙◌}
+use Rattle.block.proofs.Steps.{step_field}
+use Rattle.block_walk.proofs.Searching.{search-long, search-start, search-end, search-refused, search-found, search-on}
 use Rattle.block_walk.proofs.steps.step_from.Goals as goal
 
 pub returns-then-too_long : goal.returns-then-too_long

@@ -1,11 +1,8 @@
 -- `command_list::entry::bare_end` meets its contract: as long as a byte is of the class the run goes on.
 use Prim.Native.Nat.{◌-◌}
-use native.Mathlib.Omega.{arith}
-use borrow.Author.Rules.{rules}
 use lib.ListN.{length}
 use Rattle.base_readers.specs.Readers.{run}
 use Rattle.base_readers.specs.Places.{Reaches}
-use Rattle.base_readers.proofs.Loops.{reaches-start, run_on, run-off, run_out}
 use Rattle.identifier_rules.specs.Identifier.{identifier_byte}
 use Rattle.command_list.proofs.entry.bare_end.Given as goal
 

@@ -1,6 +1,5 @@
 -- `command_list::entry::is_marked` meets its contract: the three tests of the definition.
 use Rattle.command_list.proofs.EntryLines.{marked-is}
-use borrow.Author.Rules.{rules}
 use Rattle.command_list.proofs.entry.is_marked.Goals as goal
 
 pub returns : goal.returns

@@ -1,6 +1,5 @@
 -- `command_list::entry::is_silent` meets its contract: each arm is a case of the definition.
 use Rattle.command_list.proofs.EntryLines.{silent-mark, silent-hash, silent-unbare, silent-star, silent-none}
-use borrow.Author.Rules.{rules}
 use Rattle.command_list.proofs.entry.is_silent.Goals as goal
 
 pub returns-in-Mark : goal.returns-in-Mark

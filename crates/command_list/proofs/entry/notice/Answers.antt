@@ -1,6 +1,5 @@
 -- `command_list::entry::notice` meets its contract: each test in turn is a case of the definition.
 use Rattle.command_list.proofs.EntryLines.{notice-mark, notice-hash, notice-unbare, notice-star, notice-none}
-use borrow.Author.Rules.{rules}
 use Rattle.command_list.proofs.entry.notice.Goals as goal
 
 pub returns-then-is_marked : goal.returns-then-is_marked

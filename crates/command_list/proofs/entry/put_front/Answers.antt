@@ -1,6 +1,5 @@
 -- `command_list::entry::put_front` meets its contract: the word, and then the number.
 use Rattle.command_list.proofs.EntryLines.{front-put}
-use borrow.Author.Rules.{rules}
 use Rattle.command_list.proofs.entry.put_front.Goals as goal
 
 pub returns : goal.returns

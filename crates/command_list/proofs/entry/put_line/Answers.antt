@@ -1,6 +1,5 @@
 -- `command_list::entry::put_line` meets its contract: each arm writes the line of its kind.
 use Rattle.command_list.proofs.EntryLines.{line-compared, line-noticed, line-noted}
-use borrow.Author.Rules.{rules}
 use Rattle.command_list.proofs.entry.put_line.Goals as goal
 
 pub returns-in-Compared : goal.returns-in-Compared

@@ -1,6 +1,5 @@
 -- `command_list::entry::put_unbare` meets its contract: the words, and then the byte.
 use Rattle.command_list.proofs.EntryLines.{unbare-put, unbare-none}
-use borrow.Author.Rules.{rules}
 use Rattle.command_list.proofs.entry.put_unbare.Goals as goal
 
 pub returns-then-i-e : goal.returns-then-i-e

@@ -1,6 +1,5 @@
 -- `command_list::entry::put_words` meets its contract: each arm writes the words of its notice.
 use Rattle.command_list.proofs.EntryLines.{mark-words, hash-words, unbare-words, star-words, no_words}
-use borrow.Author.Rules.{rules}
 use Rattle.command_list.proofs.entry.put_words.Goals as goal
 
 pub returns-in-Mark : goal.returns-in-Mark

@@ -1,6 +1,5 @@
 -- `command_meanings::faults::fault_place` meets its contract: each test in turn is a case of the definition.
 use Rattle.command_meanings.proofs.Meanings.{fault-zero, fault-one, fault-two, fault-three, fault-four}
-use borrow.Author.Rules.{rules}
 use Rattle.command_meanings.proofs.faults.fault_place.Goals as goal
 
 pub returns-then-feeds_before-ge-ENTRIES : goal.returns-then-feeds_before-ge-ENTRIES

@@ -1,12 +1,8 @@
 -- `command_meanings::faults::feed_from` meets its contract: the run goes on as long as there is no LF.
 use Prim.Native.Nat.{◌-◌}
-use native.Mathlib.Omega.{arith}
 use lib.ListN.{length}
-use borrow.Author.Rules.{rules}
 use Rattle.base_readers.specs.Places.{Reaches}
-use Rattle.base_readers.proofs.Loops.{reaches-start, run_out}
 use Rattle.command_rules.specs.Messages.{until_feed}
-use Rattle.command_rules.proofs.Feeds.{feed-stop, feed-go}
 use Rattle.command_meanings.proofs.faults.feed_from.Given as goal
 
 abbrev pub invariant-loop-i : goal.invariant-loop-i

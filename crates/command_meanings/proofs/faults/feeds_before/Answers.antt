@@ -1,8 +1,5 @@
-use Prim.Native.Nat.{◌-◌}
 use native.Mathlib.Omega.{arith}
-use lib.ListN.{length}
-use borrow.Author.Rules.{rules}
-use Rattle.command_rules.proofs.Feeds.{Counting, counting-start, counting-there, counting-end, counting-feed, counting-other}
+use Rattle.command_rules.proofs.Feeds.{counting-start, counting-there, counting-end, counting-feed, counting-other}
 use Rattle.command_meanings.proofs.faults.feeds_before.Goals as goal
 
 pub loop-i-init : goal.loop-i-init

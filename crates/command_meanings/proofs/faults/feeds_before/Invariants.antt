@@ -1,9 +1,7 @@
 -- `command_meanings::faults::feeds_before` meets its contract: those counted and those still to be counted are all of them.
 use Prim.Native.Nat.{◌-◌}
-use native.Mathlib.Omega.{arith}
 use lib.ListN.{length}
-use borrow.Author.Rules.{rules}
-use Rattle.command_rules.proofs.Feeds.{Counting, counting-start, counting-there, counting-end, counting-feed, counting-other}
+use Rattle.command_rules.proofs.Feeds.{Counting}
 use Rattle.command_meanings.proofs.faults.feeds_before.Given as goal
 
 abbrev pub invariant-loop-i : goal.invariant-loop-i

@@ -1,6 +1,5 @@
 -- `command_meanings::faults::put_fault` meets its contract: what is wrong is a phrase of the text.
 use Rattle.command_meanings.proofs.Meanings.{fault-put}
-use borrow.Author.Rules.{rules}
 use Rattle.command_meanings.proofs.faults.put_fault.Goals as goal
 
 pub returns : goal.returns
