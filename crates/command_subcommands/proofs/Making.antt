@@ -1,9 +1,8 @@
 -- What a call answered and wrote is what the subcommand makes of it. The premises are literally what a need is handed.
-use Prim.Native.Nat.{ℕ, zero, suc, ◌-◌, ◌≤◌, ◌<◌}
+use Prim.Native.Nat.{ℕ, zero, suc, ◌-◌, ◌<◌}
 use native.Mathlib.Omega.{arith}
 use mathlib.Core.Path.{◌≡◌, refl, sym, ap, ◌∙◌, subst}
 use mathlib.Core.List.{List, ◌++◌, map}
-use lib.Dec.{lit<}
 use lib.ListN.{length, drop}
 use lib.Seq.{take-append_seam}
 use borrow.Author.Tests.{eq-eqb, ne_eqb}
@@ -45,7 +44,7 @@ use Rattle.command_list_rules.specs.Notices.{lines_from, notices, check_text}
 use Rattle.command_list_rules.proofs.Fits.{check-fits}
 use Rattle.command_sets.specs.Sets.{sets_of}
 use Rattle.command_output_rules.specs.declared.Made.{Made}
-use Rattle.command_output_rules.specs.Outputs.{Output, made_of, said_of, said, worded, stripped_block, reported_block, explained_block, verdicts_refusal, checked_list, judged_block, written_body}
+use Rattle.command_output_rules.specs.Outputs.{Output, made_of, said_of, worded, stripped_block, reported_block, explained_block, verdicts_refusal, checked_list, judged_block, written_body}
 use Rattle.command_output_rules.proofs.EndingCases.{worded-refused, worded-said, stored-front}
 use Rattle.command_laws.proofs.JudgementRooms.{judgement-fits}
 use Rattle.command_laws.proofs.ExplainRooms.{explained-fits}
