@@ -70,6 +70,7 @@ module _ (own : List (List ℕ)) (f : Field) (stays : is_removed (among own) f �
 -- a field of those that pass a test passes it
 pub select-passes : (p : Field → Bool) (fs : List Field) (g : Field) → Memᴰ g (select p fs) → p g ≡ true
 unfolding select
+select-passes p [] g m = elim m [ ]
 select-passes p (f ∷ fs) g m = go (p f) refl (select-passes p fs g) m
   where
     go : (t : Bool) → p f ≡ t → (Memᴰ g (select p fs) → p g ≡ true) → Memᴰ g (select p (f ∷ fs)) → p g ≡ true

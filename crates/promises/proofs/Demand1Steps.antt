@@ -1,6 +1,6 @@
 -- Demand 1 of the two calls that stripping is made of (02, ticket [7]): when each gives which number, with which place; zero counts; the lent buffer.
 use Prim.Native.Nat.{ℕ, ◌≤◌, ◌<◌}
-use mathlib.Core.Path.{◌≡◌, ap, ◌∙◌}
+use mathlib.Core.Path.{◌≡◌}
 use mathlib.Core.List.{List}
 use lib.ListN.{length, drop}
 use Rattle.lexis_rules.specs.Limits.{byte_limit}
@@ -8,7 +8,6 @@ use Rattle.block_rules.specs.Fields.{fields, bytes_of}
 use Rattle.ownlist_rules.specs.OwnList.{own_list}
 use Rattle.ownlist_rules.specs.Calls.{Known}
 use Rattle.strip_rules.specs.Terms.{kept_fields}
-use Rattle.strip_steps_rules.specs.Steps.{refuse_marks, done_marks, mark}
 use Rattle.strip_steps_rules.specs.Terms.{marks_for}
 use Rattle.strip_steps_laws.proofs.Marks.{marks-for-long}
 use Rattle.strip_steps_laws.proofs.Numbers as steps
