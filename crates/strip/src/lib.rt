@@ -72,6 +72,7 @@ const FEW: usize = 64;
 
 // The block without the fields that go, given their marks, with rooms for as many marks and places as marks were handed in: where there is another number of fields it is refused
 // anyway. The marks are found again in one walk, and with them where each field ends; then what stands between the fields that go is copied at once.
+#[inline(always)]
 fn copy_by(
     s: &[u8],
     list: &[u8],
