@@ -193,7 +193,7 @@ typedef struct {
  * is removed by marks of another block or list. An output as long as the block is always long
  * enough.
  *
- * It needs up to 92 KiB of stack.
+ * It needs up to 88 KiB of stack.
  *
  * The first of these that applies is the number: 1 the block is too long; 5 a bad list; 2, 3 or
  * 4 a bad block; 13 other marks; 6 no room; 0 done.

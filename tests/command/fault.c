@@ -69,7 +69,7 @@ int open(const char *path, int flags, ...) {
 ssize_t __write(int file, const void *from, size_t size);
 ssize_t __write(int file, const void *from, size_t size) { return write(file, from, size); }
 
-/* The standard library opens by openat, which counts as open. */
+/* An open by this name counts as open too. */
 int openat(int folder, const char *path, int flags, ...) {
     int how = fault("open");
     if (how > GO_ON) {

@@ -38,7 +38,7 @@
 //!
 //! Each call that writes allocates its output; the ones that end in `_into` write to a lent buffer
 //! instead. [`raw`] has the calls as C has them. The library needs up to 132 KiB of stack
-//! ([`judge`]; 92 KiB [`copy`] and [`strip`]; 84 KiB [`mark`] and [`whose`]), which a thread of
+//! ([`judge`]; 88 KiB [`copy`] and [`strip`]; 84 KiB [`mark`] and [`whose`]), which a thread of
 //! Rust's has unless it is given less.
 
 #![deny(missing_docs)]
