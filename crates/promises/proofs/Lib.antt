@@ -3,9 +3,13 @@ pub mod Demand1Steps
 pub mod Demand1Instances
 pub mod Demand1Command
 pub mod Demand2
+pub mod Demand2Failed
 pub mod Demand3
 pub mod Ticket1
 pub mod Ticket2
 pub mod Ticket3
 pub mod Ticket7
+pub mod Ticket7Instances
+pub mod StrippedBlocks
 pub mod Ticket14
+pub mod Ticket14Calls

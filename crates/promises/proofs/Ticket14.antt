@@ -1,14 +1,12 @@
 -- 02, ticket [14], "Nobody speaks in our name": a stripped block with one field of ours in front. Each theorem stands under the sentence that it
--- proves; an instance is at the end. Identifiers are equal by ticket [2] (`same_identifier`). What is supposed, and nothing else:
+-- proves; what the calls write and an instance are in Ticket14Calls. Identifiers are equal by ticket [2] (`same_identifier`). What is supposed, and nothing else:
 --   the block isn't refused, and stripping it by the list gives these bytes: `IsStripped`, below
 --   our field is one well-formed Authentication-Results field that has an identifier from the list: `OwnField`, in ownfield_rules
 --   the result is within 01's limits, 65,536 bytes and 512 fields: `Within`, in ownfield_rules
 use Prim.Native.Nat.{ℕ, suc, ◌+◌, ◌*◌, ◌≤◌}
-use native.Mathlib.Omega.{arith}
-use mathlib.Core.Path.{◌≡◌, refl, sym, ap, ◌∙◌}
+use mathlib.Core.Path.{◌≡◌, sym, ap, ◌∙◌}
 use mathlib.Core.Bool.{true}
 use mathlib.Core.List.{List, [], ◌∷◌, ◌++◌, Memᴰ}
-use lib.Dec.{lit≤}
 use lib.ListN.{length, take, drop}
 use lib.Seq.{take-append_seam}
 use Rattle.base_readers.specs.Texts.{bytes}
@@ -28,27 +26,23 @@ use Rattle.strip_rules.specs.ByFields.{Kept}
 use Rattle.strip_laws.proofs.Laws as strip-laws
 use Rattle.strip_laws.proofs.ByFields as kept_laws
 use Rattle.strip_laws.proofs.StripTheorems as strip-theorems
-use Rattle.strip_steps_rules.proofs.Examples as steps
 use Rattle.report_rules.specs.Report.{report}
-use Rattle.report_rules.proofs.Unfolding as report-opened
 use Rattle.blockreport_rules.specs.declared.Detail.{Detail}
-use Rattle.blockreport_rules.specs.declared.Detail.TheVariants.{Reported, Identified}
+use Rattle.blockreport_rules.specs.declared.Detail.TheVariants.{Reported}
 use Rattle.blockreport_rules.specs.FieldLines.{field_line}
-use Rattle.blockreport_rules.specs.BlockReport.{body_lines, addition, additions}
+use Rattle.blockreport_rules.specs.BlockReport.{addition, additions}
 use Rattle.blockreport_rules.specs.Terms.{block_text}
-use Rattle.blockreport_laws.proofs.Numbers as numbers-of-block-report
 use Rattle.write_rules.specs.Entries.{identified, entry}
 use Rattle.write_rules.specs.Compose.{compose}
 use Rattle.write_rules.specs.Promise.{says_lines}
-use Rattle.write_rules.proofs.Unfolding as write-opened
 use Rattle.ownfield_rules.specs.OwnField.{OwnField, Within, speaks_as, is_ours, additions_under, field_with, as_field}
-use Rattle.ownfield_rules.proofs.Examples as own-opened
 use Rattle.ownfield_laws.proofs.OwnFieldFirst as own-laws
 use Rattle.ownfield_laws.proofs.EachPlace as place-laws
 use Rattle.ownfield_laws.proofs.WrittenIsOurs as written-laws
 use Rattle.ownfield_laws.proofs.WrittenLimits as written-limits
 use Rattle.promises.specs.Exactly.{Exactly}
-use Rattle.promises.specs.Calls.{marks, marks_then_copies, block_reports, writes}
+use Rattle.promises.specs.Calls.{marks, marks_then_copies, writes}
+use Rattle.promises.proofs.StrippedBlocks as facts
 use Rattle.promises.proofs.Ticket7.{calls-strip, kept-is}
 
 -- ==== Take any block that isn't refused, strip it
@@ -66,73 +60,47 @@ pair-stripped block list first old roomy z =
 
 module _ (block list stripped ours : List ℕ) (f : Field) (s : IsStripped block list stripped) (own : OwnField list ours f)
     (within : Within (ours ++ stripped)) where
-  done : strip-laws.Sound block list s.0
-  done = strip-laws.strip-sound block list s.0 s.1.0
-
-  is : stripped ≡ bytes_of (kept_fields block list)
-  is = sym s.1.1 ∙ ap (λ (a : Answer). a.written) done.is
-
-  kept : (fields stripped).items ≡ kept_fields block list
-  kept = rw (← s.1.1) (ap (λ (w : Walked Field). w.items) (strip-theorems.strip-fields block list s.0 s.1.0))
-
   -- ==== then the Authentication-Results fields in it whose identifier is on the list are exactly that one
 
   pub exactly-that-one : select (speaks_as (among (own_list list).items)) (fields (ours ++ stripped)).items ≡ f ∷ []
-  exactly-that-one = own-laws.own-only block list ours stripped f own done.fielded is within
+  exactly-that-one = own-laws.own-only block list ours stripped f own (facts.fielded block list stripped ours f s.0 s.1.0 s.1.1 own within) (facts.is block list stripped ours f s.0 s.1.0 s.1.1 own within) within
 
   -- by place: a field g of it, with the fields xs before it, is one of them exactly when there are none before it; and that is f
   pub exactly-first : (xs : List Field) (g : Field) (ys : List Field) → (fields (ours ++ stripped)).items ≡ xs ++ (g ∷ ys)
       → Exactly (speaks_as (among (own_list list).items) g ≡ true) ((xs ≡ []) × (g ≡ f))
   exactly-first xs g ys at = (
-    place-laws.speaks-first block list ours stripped f own done.fielded is within xs g ys at,
+    place-laws.speaks-first block list ours stripped f own (facts.fielded block list stripped ours f s.0 s.1.0 s.1.1 own within) (facts.is block list stripped ours f s.0 s.1.0 s.1.1 own within) within xs g ys at,
     λ w. rw w.1 (own-laws.own-speaks list ours f own),
   )
 
   -- that one is there, first, and of the stripped block nothing is lost: the result isn't refused, and its fields are f and then those of the
   -- stripped block, byte for byte and in order
   pub its-fields : fields (ours ++ stripped) ≡ record { items = f ∷ (fields stripped).items; number = 0; place = 0 }
-  its-fields = rw kept (own-laws.own-fields block list ours stripped f own done.fielded is within)
+  its-fields = rw (facts.kept block list stripped ours f s.0 s.1.0 s.1.1 own within) (own-laws.own-fields block list ours stripped f own (facts.fielded block list stripped ours f s.0 s.1.0 s.1.1 own within) (facts.is block list stripped ours f s.0 s.1.0 s.1.1 own within) within)
 
   -- which are all fields of the block, in order, but those that demand 2 removes: fields of another name and those of another's identifier stay
   pub others-stay : (bytes_of (fields block).items ≡ block) × Kept (own_list list).items (fields block).items (fields stripped).items
-  others-stay = ((field_laws.fields-fine block done.fielded).bytes, rw kept (kept_laws.kept-fields (own_list list).items (fields block).items))
+  others-stay = ((field_laws.fields-fine block (facts.fielded block list stripped ours f s.0 s.1.0 s.1.1 own within)).bytes, rw (facts.kept block list stripped ours f s.0 s.1.0 s.1.1 own within) (kept_laws.kept-fields (own_list list).items (fields block).items))
 
   -- ==== and every report line under such an identifier comes from it
 
-  short : length f.bytes ≤ byte_limit
-  short = own-laws.own-short block list ours stripped f own done.fielded is within
-
   -- the body of f by itself is answered with 0
   pub its-body : (room : ℕ) → 3 * length (body_of f) + 4 ≤ room → (report (body_of f) room).number ≡ 0
-  its-body room h = (own-laws.own-report list ours f own short Reported room h).0
+  its-body room h = (own-laws.own-report list ours f own (facts.short block list stripped ours f s.0 s.1.0 s.1.1 own within) Reported room h).0
 
   -- in both details, with any room that is enough for a report of that body
   module _ (detail : Detail) (room : ℕ) (h : 3 * length (body_of f) + 4 ≤ room) where
     -- the line of the first field, with the word `own`, 0 and how many results are ignored; and then the report of its body
-    abbrev its_lines : List ℕ
+    abbrev pub its_lines : List ℕ
     its_lines = field_line 1 Ours 0 (report (body_of f) room).ignored ++ (report (body_of f) room).written
-
-    lines_are : body_lines detail 1 Ours (body_of f) ≡ its_lines
-    lines_are = (own-laws.own-report list ours f own short detail room h).1
 
     -- of the report of the whole block, what is told of fields under an identifier of the list
     pub its-lines : additions_under is_ours detail (own_of (own_list list).items) 1 (fields (ours ++ stripped)).items ≡ its_lines
-    its-lines = own-laws.own-reported block list ours stripped f own done.fielded is within detail ∙ lines_are
+    its-lines = own-laws.own-reported block list ours stripped f own (facts.fielded block list stripped ours f s.0 s.1.0 s.1.1 own within) (facts.is block list stripped ours f s.0 s.1.0 s.1.1 own within) within detail ∙ facts.lines_are block list stripped ours f s.0 s.1.0 s.1.1 own within detail room h
 
     -- the whole of it: these lines, and then those of the stripped block's fields, each with the word `other`
     pub its-text : block_text detail (ours ++ stripped) list ≡ its_lines ++ additions detail (λ i. Others) 2 (fields stripped).items
-    its-text = rw (kept, ← lines_are) (own-laws.own-text block list ours stripped f own done.fielded is within detail)
-
-    -- and that is what `blockreport::report_block` writes, with room for it
-    pub its-report : (old : List ℕ) → length (block_text detail (ours ++ stripped) list) ≤ length old
-        → ((block_reports detail (ours ++ stripped) list old).answer.number ≡ 0)
-        × (take (block_reports detail (ours ++ stripped) list old).answer.written (block_reports detail (ours ++ stripped) list old).left
-        ≡ its_lines ++ additions detail (λ i. Others) 2 (fields stripped).items)
-    its-report old roomy =
-        let t = block_text detail (ours ++ stripped) list in
-        let e = numbers-of-block-report.when-zero detail (ours ++ stripped) list (length old)
-        (within.bytes, (done.listed, ap (λ (w : Walked Field). w.number) its-fields)) roomy in
-        (rw e, rw e (take-append_seam t (drop (length t) old) ∙ its-text))
+    its-text = rw (facts.kept block list stripped ours f s.0 s.1.0 s.1.1 own within, ← facts.lines_are block list stripped ours f s.0 s.1.0 s.1.1 own within detail room h) (own-laws.own-text block list ours stripped f own (facts.fielded block list stripped ours f s.0 s.1.0 s.1.1 own within) (facts.is block list stripped ours f s.0 s.1.0 s.1.1 own within) within detail)
 
   -- by place: the report is one group of lines for each field, and a group that starts with `field`, its number and `own` is that of f
   pub headed-own : (detail : Detail) (xs : List Field) (g : Field) (ys : List Field) → (fields (ours ++ stripped)).items ≡ xs ++ (g ∷ ys)
@@ -145,7 +113,7 @@ module _ (block list stripped ours : List ℕ) (f : Field) (s : IsStripped block
       ≡ bytes "field\t" ++ (decimal (1 + length xs) ++ (bytes "\town\t" ++ rest)) → (xs ≡ []) × (g ≡ f))
   headed-own detail xs g ys at = (
     rw at (place-laws.additions-at detail (own_of (own_list list).items) 1 xs g ys),
-    λ rest. place-laws.heads-first block list ours stripped f own done.fielded is within xs g ys at detail (1 + length xs) rest,
+    λ rest. place-laws.heads-first block list ours stripped f own (facts.fielded block list stripped ours f s.0 s.1.0 s.1.1 own within) (facts.is block list stripped ours f s.0 s.1.0 s.1.1 own within) within xs g ys at detail (1 + length xs) rest,
   )
 
 -- ==== Stripping the stripped block with the same list, and room for it, gives the same bytes and removes nothing
@@ -162,25 +130,6 @@ strips-twice block list stripped s first old roomy h =
     let t : strip b list (length old) ≡ record { number = 0; place = 0; kept = length b; removed = 0; fields = 0; written = b } =
     rw e at (strip-theorems.strip-twice block list s.0 s.1.0 (length old) (rw (e, ← is) h)) in
     calls-strip stripped list first old roomy ∙ rw (is, t)
-
--- ==== the same of the calls: what `strip::mark` and `strip::copy` left in front is stripped, and our field is put before it
-
-module _ (block list first old ours : List ℕ) (f : Field) (roomy : (marks block list first).answer.number ≡ 6 → ⊥)
-    (z : (marks_then_copies block list first old).answer.number ≡ 0) (own : OwnField list ours f)
-    (within : Within (ours ++ take (marks_then_copies block list first old).answer.kept (marks_then_copies block list first old).left)) where
-  abbrev left : List ℕ
-  left = take (marks_then_copies block list first old).answer.kept (marks_then_copies block list first old).left
-
-  pub pair-exactly : (select (speaks_as (among (own_list list).items)) (fields (ours ++ left)).items ≡ f ∷ []) × ((fields (ours ++ left)).items ≡ f ∷ (fields left).items)
-  pair-exactly =
-      let s = pair-stripped block list first old roomy z in
-      (exactly-that-one block list left ours f s own within, ap (λ (w : Walked Field). w.items) (its-fields block list left ours f s own within))
-
-  pub pair-report : (detail : Detail) (room : ℕ) → 3 * length (body_of f) + 4 ≤ room → (old' : List ℕ) → length (block_text detail (ours ++ left) list) ≤ length old'
-      → ((block_reports detail (ours ++ left) list old').answer.number ≡ 0)
-      × (take (block_reports detail (ours ++ left) list old').answer.written (block_reports detail (ours ++ left) list old').left
-      ≡ (field_line 1 Ours 0 (report (body_of f) room).ignored ++ (report (body_of f) room).written) ++ additions detail (λ i. Others) 2 (fields left).items)
-  pair-report = its-report block list left ours f (pair-stripped block list first old roomy z) own within
 
 -- ==== the gateway's own way meets what is supposed: strip, write (ticket [1]), put in front
 
@@ -229,88 +178,3 @@ module _ (lines out block list first old : List ℕ) (done : (writes lines out).
         let w = written-laws.gateway-way lines block list (length out) (length old) done stripped i n named e listed equal (rw rest-fields at few)
         (rw (body_is, rest-is) at small) in
         rw (body_is, rest-is) (w.0, (w.1, w.2))
-
-    -- so what is said above holds of it: nobody else speaks in our name
-    pub gateway-exactly : select (speaks_as (among (own_list list).items)) (fields (field_with body ++ rest)).items ≡ as_field body ∷ []
-    gateway-exactly =
-        (pair-exactly block list first old (field_with body) (as_field body) roomy z gateway-way.0 gateway-way.1.0).0
-
--- ==== an instance: a list of two entries; a block with a field of each, one of them spelled otherwise, one that can't be read, and others' fields;
--- our field in another case and spelling
-
-abbrev own-list : List ℕ
-own-list = bytes "mx.example\nxn--bcher-kva.example\n"
-
-abbrev received : List ℕ
-received =
-    bytes "Authentication-Results: \"MX.example\"; spf=pass\r\nAuthentication-Results: b"
-    ++ (195 ∷ 188 ∷ bytes "cher.example; dkim=pass\r\nAuthentication-Results:/\r\nAuthentication-Results: other.example; none\r\nFrom: a@b.example\r\n")
-
-abbrev left_over : List ℕ
-left_over = bytes "Authentication-Results: other.example; none\r\nFrom: a@b.example\r\n"
-
-abbrev written : List ℕ
-written = bytes "authentication-results : XN--bcher-kva.Example; spf=fail; x/2=y\r\n"
-
-abbrev its-field : Field
-its-field = record { bytes = written; name = 22; body = 24 }
-
-its_own : OwnField own-list written its-field
-unfolding own-opened.opened report-opened.opened
-its_own =
-    record {
-      one = refl;
-      name = refl;
-      body = refl;
-      text = bytes "XN--bcher-kva.Example";
-      size = 22;
-      reads = refl;
-      entry = bytes "xn--bcher-kva.example";
-      listed = Memᴰ.tail (Memᴰ.head refl);
-      equal = refl;
-    }
-
--- by the two calls, with just enough room for the marks
-its-stripped : IsStripped received own-list left_over
-unfolding steps.opened
-its-stripped = pair-stripped received own-list (bytes ".....") received (λ e. omega (arith, e)) refl
-
-its-limits : Within (written ++ left_over)
-unfolding own-opened.opened
-its-limits = record { bytes = lit≤ tt; fields = λ e. (let z : ◌≡◌ {A = ℕ} 0 4 = e in omega arith) }
-
-instance-fields : select (speaks_as (among (own_list own-list).items)) (fields (written ++ left_over)).items ≡ its-field ∷ []
-unfolding own-opened.opened
-instance-fields = exactly-that-one received own-list left_over written its-field its-stripped its_own its-limits
-
-instance-lines :
-    block_text Identified (written ++ left_over) own-list
-    ≡ bytes "field\t1\town\t0\t1\nid\tXN--bcher-kva.Example\nm\tspf\tfail\nfield\t2\tother\t0\t0\nid\tother.example\nnone\n"
-unfolding own-opened.opened report-opened.opened
-instance-lines = its-text received own-list left_over written its-field its-stripped its_own its-limits Identified 300 (lit≤ tt)
-
--- what the call writes
-instance-report :
-    take (block_reports Reported (written ++ left_over) own-list received).answer.written (block_reports Reported (written ++ left_over) own-list received).left
-    ≡ bytes "field\t1\town\t0\t1\nid\tXN--bcher-kva.Example\nm\tspf\tfail\nfield\t2\tother\t0\t0\nid\tother.example\nnone\n"
-unfolding own-opened.opened report-opened.opened
-instance-report = (its-report received own-list left_over written its-field its-stripped its_own its-limits Reported 300 (lit≤ tt) received (lit≤ tt)).1
-
-instance-twice :
-    marks_then_copies left_over own-list (bytes "..") (left_over ++ bytes "!")
-    ≡ record { answer = record { number = 0; place = 0; kept = 64; removed = 0; fields = 0 }; left = left_over ++ bytes "!" }
-unfolding own-opened.opened steps.opened
-instance-twice = strips-twice received own-list left_over its-stripped (bytes "..") (left_over ++ bytes "!") (λ e. omega (arith, e)) (lit≤ tt)
-
--- and the gateway's way, with a field written from lines under the second entry
-its-entry : Memᴰ (bytes "xn--bcher-kva.example") (own_list own-list).items
-unfolding own-opened.opened
-its-entry = Memᴰ.tail (Memᴰ.head refl)
-
-instance-gateway :
-    select (speaks_as (among (own_list own-list).items)) (fields (bytes "Authentication-Results: xn--bcher-kva.example; spf=pass\r\n" ++ left_over)).items
-    ≡ as_field (bytes " xn--bcher-kva.example; spf=pass") ∷ []
-unfolding own-opened.opened steps.opened write-opened.opened
-instance-gateway =
-    gateway-exactly (bytes "id\txn--bcher-kva.example\nm\tspf\tpass\n") (bytes "................................") received own-list (bytes ".....") received
-    refl (λ e. omega (arith, e)) refl (bytes "xn--bcher-kva.example") 25 refl (bytes "xn--bcher-kva.example") its-entry refl (lit≤ tt) (lit≤ tt)

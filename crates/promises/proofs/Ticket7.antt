@@ -1,10 +1,8 @@
 -- 02, ticket [7], "Stripping in two steps": what is promised of the two calls together. When each is refused is in Demand1Steps.
 use Prim.Native.Nat.{ℕ, zero, suc, ◌≤◌}
-use native.Mathlib.Omega.{arith}
 use mathlib.Core.Path.{◌≡◌, refl, ap, ◌∙◌}
 use mathlib.Core.Bool.{Bool, cond}
 use mathlib.Core.List.{List, [], ◌∷◌, ◌++◌, map}
-use lib.Dec.{lit≤}
 use lib.ListN.{length, take, drop}
 use lib.Seq.{take-append_seam}
 use Rattle.base_readers.specs.Texts.{bytes}
@@ -47,7 +45,7 @@ pub marks-room : (block list old : List ℕ) → field_limit ≤ length old → 
 marks-room block list old = pairs.mark-room block list (length old)
 
 -- four fields, of which the first and the third go
-abbrev block-example : List ℕ
+abbrev pub block-example : List ℕ
 block-example = bytes "Authentication-Results:/\r\nA: b\r\nAuthentication-Results: a\r\nAuthentication-Results: c\r\n"
 
 marks-example :
@@ -145,11 +143,3 @@ module _ (block list first old : List ℕ) (roomy : (marks block list first).ans
   pair-twice first' old' room' h =
       let t = strip-twice block list old done (length old') (rw is at h) in
       calls-strip kept list first' old' room' ∙ rw (kept-is, t, is)
-
-twice-example :
-    marks_then_copies (bytes "A: b\r\nAuthentication-Results: c\r\n") (bytes "a\n") (bytes "..") (bytes ".................................!")
-    ≡ record { answer = record { number = 0; place = 0; kept = 33; removed = 0; fields = 0 }; left = bytes "A: b\r\nAuthentication-Results: c\r\n!" }
-unfolding steps.opened
-twice-example =
-    pair-twice block-example (bytes "a\n") (bytes ".....") (bytes "..................................") (λ e. omega (arith, e)) refl (bytes "..")
-    (bytes ".................................!") (λ e. omega (arith, e)) (lit≤ tt)
