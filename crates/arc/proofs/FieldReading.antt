@@ -4,6 +4,8 @@ use mathlib.Core.Path.{◌≡◌, refl, sym, ap, ◌∙◌}
 use mathlib.Core.Bool.{Bool, true, false}
 use mathlib.Core.List.{List}
 use mathlib.Core.Option.{Option, none, some}
+use Rattle.std.specs.Prelude as std
+use Rattle.std.specs.Prelude.{Some, None}
 use lib.ListN.{length}
 use Rattle.base_readers.specs.Texts.{bytes}
 use Rattle.base_readers.specs.Parsers.{Got, nothing, got, Parser, after, ◌>>=◌, ◌>>◌, give, when}
@@ -11,13 +13,9 @@ use Rattle.base_readers.specs.Places.{from}
 use Rattle.base_readers.proofs.Sequencing.{after-zero}
 use Rattle.base_readers.proofs.Places.{goes_on, stops, gives, passes, fails}
 use Rattle.lexis_rules.specs.Limits.{byte_limit}
-use Rattle.arc.specs.declared.Field.{Field}
 use Rattle.arc_rules.specs.declared.Kind.{Kind}
 use Rattle.arc_rules.specs.declared.Kind.TheVariants.{Results, Signature, Seal, Other}
 use Rattle.arc_fields.specs.declared.Start.{Start}
-use Rattle.arc_fields.specs.declared.Start.TheVariants as start
-use Rattle.tag_list.specs.declared.Listed.{Listed}
-use Rattle.tag_list.specs.declared.Listed.TheVariants as listed
 use Rattle.tag_rules.specs.Tags.{Tag, tags, value_named}
 use Rattle.tag_rules.specs.Needed.{chain_value, is_signature, is_seal}
 use Rattle.arc_rules.specs.Sets.{instance, Said, says}
@@ -25,7 +23,7 @@ use Rattle.arc_fields.specs.Answers.{start_got}
 use Rattle.tag_content.specs.Lists.{list_test, list_said, listed_at}
 use Rattle.tag_content.proofs.TagLists.{list-within}
 use Rattle.tag_list.specs.Lists.{listed_said}
-use Rattle.arc.specs.Internal.{field_of, field_said, said_of}
+use Rattle.arc.specs.Internal.{said_of}
 
 -- ==== what a field says
 
@@ -40,13 +38,9 @@ said-after k nothing = refl
 said-after k (got a n) = refl
 
 -- a list's chain value with the instance before it
-abbrev entry : ℕ → Option ℕ → Option Said
+abbrev pub entry : ℕ → Option ℕ → Option Said
 entry i none = none
 entry i (some c) = some (record { instance = i; cv = c })
-
-field-entry : (i : ℕ) (l : Listed) → field_said (field_of i l) ≡ entry i (listed_said l)
-field-entry i (listed.Read c) = refl
-field-entry i listed.Unreadable = refl
 
 -- what a list has to pass, and what it gives
 abbrev test : Bool → List Tag → Bool
@@ -98,33 +92,33 @@ unfolding said_of says
 field-other k q body = rw q refl
 
 -- by the answers of the code
-module _ (body : List ℕ) (x : Start) (w : start_got x ≡ instance body) where
+module _ (body : List ℕ) (x : std.Option Start) (w : start_got x ≡ instance body) where
   front : start_got x ≡ from instance body 0
   unfolding from
   front = w ∙ sym (after-zero (instance body))
 
-  module _ (i e : ℕ) (h : x ≡ start.Read i e) (k : Kind) where
-    found : got i e ≡ from instance body 0
+  module _ (y : Start) (h : x ≡ Some y) (k : Kind) where
+    found : got y.instance y.end ≡ from instance body 0
     found = ap start_got (sym h) ∙ front
 
-    pub field-results : k ≡ Results → some (record { instance = i; cv = 0 }) ≡ said_of k body
+    pub field-results : k ≡ Results → some (record { instance = y.instance; cv = 0 }) ≡ said_of k body
     unfolding says
-    field-results q = rw q (ap said (goes_on instance _ body 0 i e _ found (gives (record { instance = i; cv = 0 }) body e)) ∙ said-of Results body)
+    field-results q = rw q (ap said (goes_on instance _ body 0 y.instance y.end _ found (gives (record { instance = y.instance; cv = 0 }) body y.end)) ∙ said-of Results body)
 
-    module _ (short : length body ≤ byte_limit) (l : Listed) (r : Field) (j : r ≡ field_of i l) where
-      heard : (seal : Bool) → listed_said l ≡ listed_at seal body e → field_said r ≡ said (from (listing seal i) body e)
-      heard seal p = ap field_said j ∙ (field-entry i l ∙ (ap (entry i) (p ∙ list-within seal body e short) ∙ listing-said seal i body e))
+    module _ (short : length body ≤ byte_limit) (l : std.Option ℕ) where
+      heard : (seal : Bool) → listed_said l ≡ listed_at seal body y.end → entry y.instance (listed_said l) ≡ said (from (listing seal y.instance) body y.end)
+      heard seal p = ap (entry y.instance) (p ∙ list-within seal body y.end short) ∙ listing-said seal y.instance body y.end
 
-      pub field-signature : listed_said l ≡ listed_at false body e → k ≡ Signature → field_said r ≡ said_of k body
+      pub field-signature : listed_said l ≡ listed_at false body y.end → k ≡ Signature → entry y.instance (listed_said l) ≡ said_of k body
       unfolding says
-      field-signature p q = rw q (heard false p ∙ (ap said (goes_on instance (λ i. listing false i) body 0 i e _ found refl) ∙ said-of Signature body))
+      field-signature p q = rw q (heard false p ∙ (ap said (goes_on instance (λ i. listing false i) body 0 y.instance y.end _ found refl) ∙ said-of Signature body))
 
-      pub field-seal : listed_said l ≡ listed_at true body e → k ≡ Seal → field_said r ≡ said_of k body
+      pub field-seal : listed_said l ≡ listed_at true body y.end → k ≡ Seal → entry y.instance (listed_said l) ≡ said_of k body
       unfolding says
-      field-seal p q = rw q (heard true p ∙ (ap said (goes_on instance (λ i. listing true i) body 0 i e _ found refl) ∙ said-of Seal body))
+      field-seal p q = rw q (heard true p ∙ (ap said (goes_on instance (λ i. listing true i) body 0 y.instance y.end _ found refl) ∙ said-of Seal body))
 
   -- without an instance nothing is said
-  pub field-missing : x ≡ start.Missing → (k : Kind) → none ≡ said_of k body
+  pub field-missing : x ≡ None → (k : Kind) → none ≡ said_of k body
   unfolding says
   field-missing h k = go k
     where

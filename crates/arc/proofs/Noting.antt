@@ -8,6 +8,7 @@ use mathlib.Core.Path.{◌≡◌, refl, sym, ap, ◌∙◌}
 use mathlib.Core.Bool.{Bool, true, false, cond}
 use mathlib.Core.List.{List, [], ◌∷◌}
 use mathlib.Core.Option.{none, some}
+use Rattle.std.specs.Prelude.{Option, Some, None}
 use borrow.Author.Tests.{eqb-true, eqb-false, eq-eqb, ne_eqb}
 use lib.Dec.{eqb, ltb}
 use lib.ListN.{length, get_or, set, take, drop, replicate, length-drop, length-set, get_or-replicate}
@@ -22,7 +23,6 @@ use Rattle.block_rules.specs.Fields.{name_of, body_of}
 use Rattle.block.specs.Steps.{next_from}
 use Rattle.block.proofs.Steps.{rest_walk, field_from, Cut, step_field, step_end, step-refused, part-name, part_body}
 use Rattle.arc.specs.declared.Field.{Field}
-use Rattle.arc.specs.declared.Field.TheVariants as field
 use Rattle.arc.specs.declared.Counts.{Counts}
 use Rattle.arc_fields.specs.declared.Instance.{Instance}
 use Rattle.arc_rules.specs.declared.Kind.{Kind}
@@ -102,21 +102,21 @@ said-none kind body e = go (says kind body) refl
 
 -- ==== what the code found in a field of one of the three kinds
 
-module _ (kind : Kind) (n : ℕ) (body : List ℕ) (other : Bool) (h : other ≡ is_other kind) (e : other ≡ false) (f : Field) (w : field_said f ≡ said_of kind body) where
-  module _ (i cv : ℕ) (q : f ≡ field.Read i cv) where
-    read : SaidBy kind body (record { instance = i; cv = cv })
+module _ (kind : Kind) (n : ℕ) (body : List ℕ) (other : Bool) (h : other ≡ is_other kind) (e : other ≡ false) (f : Option Field) (w : field_said f ≡ said_of kind body) where
+  module _ (x : Field) (q : f ≡ Some x) where
+    read : SaidBy kind body (record { instance = x.instance; cv = x.cv })
     read = said-by kind body _ (rw q at w)
 
     -- its instance is one of the fifty, and its kind has a column
-    pub read-range : n < 65536 → ((1 ≤ i) × (i ≤ last_instance)) × ((column kind < 3) × (n < 65536))
+    pub read-range : n < 65536 → ((1 ≤ x.instance) × (x.instance ≤ last_instance)) × ((column kind < 3) × (n < 65536))
     read-range l = let r = says_range kind body _ _ read.reads in (r, (note-column kind (sym h ∙ e), l))
 
     -- it is placed
-    pub note-read : (z z' : Sets) → z' ≡ placed n kind (record { instance = i; cv = cv }) z → z' ≡ noted n kind body z
+    pub note-read : (z z' : Sets) → z' ≡ placed n kind (record { instance = x.instance; cv = x.cv }) z → z' ≡ noted n kind body z
     note-read z z' y = y ∙ sym (note-heard n body z kind (sym h ∙ e) ∙ rw read.reads)
 
   -- it can't be read
-  pub note-unread : f ≡ field.Unreadable → (p : List (List ℕ)) (v : List ℕ) (c : Counts) (m : ℕ) → m ≡ first c.unreadable n
+  pub note-unread : f ≡ None → (p : List (List ℕ)) (v : List ℕ) (c : Counts) (m : ℕ) → m ≡ first c.unreadable n
       → sets_of p v (record { unreadable = m; repeated = c.repeated; highest = c.highest }) ≡ noted n kind body (sets_of p v c)
   note-unread q p v c m y = rw y (sym (note-heard n body (sets_of p v c) kind (sym h ∙ e) ∙ rw (said-none kind body (rw q at w))))
 

@@ -1,10 +1,12 @@
 -- The tests of a chain by the place that a loop has reached: at each place what is left answers as the whole. Each law
 -- takes one step of a definition; the premises are what a need is handed.
-use Prim.Native.Nat.{ℕ, suc, ◌+◌, ◌≤◌, ◌<◌}
+use Prim.Native.Nat.{ℕ, zero, suc, ◌+◌, ◌-◌, ◌≤◌, ◌<◌}
 use native.Mathlib.Numerals.{add-one}
 use native.Mathlib.Omega.{arith}
 use mathlib.Core.Path.{◌≡◌, refl, sym, ap, ◌∙◌}
-use mathlib.Core.Bool.{Bool, true, false, ◌||◌}
+use mathlib.Core.Bool.{Bool, true, false, ◌&&◌, ◌||◌}
+use lib.Dec.{eqb}
+use Rattle.std.specs.List.{list_all}
 use mathlib.Core.List.{List, [], ◌∷◌}
 use borrow.Author.Tests.{eq-eqb, ne_eqb}
 use lib.ListN.{length, get_or, take, drop, drop_of_length-le}
@@ -15,51 +17,31 @@ use Rattle.arc.specs.Internal.{Places}
 
 -- ==== the chain values
 
--- what is left of the first n answers as all of them
-pub record PassFrom (c : List ℕ) (n i : ℕ) : Type 0 where
-  pub same : all_pass (drop i (take n c)) ≡ prescribed (take n c)
+abbrev pub passed : ℕ → Bool
+passed c = eqb c 2
+
+pass-all : (cs : List ℕ) → list_all passed cs ≡ all_pass cs
+unfolding all_pass
+pass-all [] = refl
+pass-all (c ∷ cs) = ap (λ (b : Bool). eqb c 2 && b) (pass-all cs)
 
 pub prescribed-none : (c : List ℕ) (n : ℕ) → n ≡ 0 → true ≡ prescribed (take n c)
 unfolding prescribed
 prescribed-none c n e = rw e
 
-module _ (c : List ℕ) (n : ℕ) (pre : (n ≤ last_instance) × (length c ≡ last_instance)) where
-  chain-long : length (take n c) ≡ n
-  chain-long = length-take-le n c (omega (arith, pre))
+-- the first of them, and those after it
+prescribed-split : (c : List ℕ) (n : ℕ) → (n ≡ 0 → ⊥) → n ≤ length c → (eqb (get_or c 0 0) 1 && list_all passed (take (n - 1) (drop 1 c))) ≡ prescribed (take n c)
+unfolding prescribed
+prescribed-split c zero ne h = absurd (ne refl)
+prescribed-split [] (suc m) ne h = absurd (omega arith)
+prescribed-split (x ∷ c) (suc m) ne h = let e : suc m - 1 ≡ m = omega arith in rw (e, pass-all (take m c))
 
-  -- the chain value at a place and those after it
-  chain-here : (i : ℕ) → i < n → drop i (take n c) ≡ get_or c i 0 ∷ drop (suc i) (take n c)
-  chain-here i h = drop-cons (take n c) i 0 (rw chain-long h) ∙ rw (get_or-take n c i 0 h)
+module _ (c : List ℕ) (n : ℕ) (pre : (n ≤ last_instance) × (length c ≡ last_instance)) (ne : n ≡ 0 → ⊥) where
+  pub prescribed-first : (get_or c 0 0 ≡ 1 → ⊥) → eqb (get_or c 0 0) 1 ≡ prescribed (take n c)
+  prescribed-first e = rw (ne_eqb (get_or c 0 0) 1 e) (rw (ne_eqb (get_or c 0 0) 1 e) at (prescribed-split c n ne (omega (arith, pre))))
 
-  pub prescribed-first : (n ≡ 0 → ⊥) → (get_or c 0 0 ≡ 1 → ⊥) → false ≡ prescribed (take n c)
-  unfolding prescribed
-  prescribed-first h e = let t : take n c ≡ get_or c 0 0 ∷ drop 1 (take n c) = chain-here 0 (omega arith) in rw (t, prescribed, ne_eqb (get_or c 0 0) 1 e)
-
-  pub prescribed-start : (n ≡ 0 → ⊥) → get_or c 0 0 ≡ 1 → PassFrom c n 1
-  unfolding prescribed
-  prescribed-start h e =
-      let t : take n c ≡ get_or c 0 0 ∷ drop 1 (take n c) = chain-here 0 (omega arith) in
-      let s : prescribed (get_or c 0 0 ∷ drop 1 (take n c)) ≡ all_pass (drop 1 (take n c)) = rw (prescribed, eq-eqb (get_or c 0 0) 1 e) in
-      record { same = sym (ap prescribed t ∙ s) }
-
-  module _ (i : ℕ) (w : PassFrom c n i) where
-    pub prescribed-more : i < n → get_or c i 0 ≡ 2 → PassFrom c n (i + 1)
-    unfolding all_pass
-    prescribed-more h e =
-        let s : all_pass (drop i (take n c)) ≡ all_pass (drop (suc i) (take n c)) = rw (chain-here i h, all_pass, eq-eqb (get_or c i 0) 2 e) in
-        record { same = rw add-one (sym s ∙ w.same) }
-
-    pub prescribed-bad : i < n → (get_or c i 0 ≡ 2 → ⊥) → false ≡ prescribed (take n c)
-    unfolding all_pass
-    prescribed-bad h e =
-        let s : all_pass (drop i (take n c)) ≡ false = rw (chain-here i h, all_pass, ne_eqb (get_or c i 0) 2 e) in
-        sym s ∙ w.same
-
-    pub prescribed-done : n ≤ i → true ≡ prescribed (take n c)
-    unfolding all_pass
-    prescribed-done h =
-        let s : all_pass (drop i (take n c)) ≡ true = rw (drop_of_length-le (take n c) {i = i} (rw chain-long h)) in
-        sym s ∙ w.same
+  pub prescribed-rest : get_or c 0 0 ≡ 1 → (r : Bool) → r ≡ list_all passed (take (n - 1) (drop 1 c)) → r ≡ prescribed (take n c)
+  prescribed-rest e r q = q ∙ (rw (eq-eqb (get_or c 0 0) 1 e) at (prescribed-split c n ne (omega (arith, pre))))
 
 -- ==== an empty place
 

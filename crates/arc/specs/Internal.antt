@@ -1,30 +1,24 @@
 -- What private functions say: no public contract cites these.
-use Rattle.std.specs.Prelude.{ℕ, ◌<◌, ◌≡◌, Bool, true, false, List, [], length, get_or}
-use Rattle.std.proofs.Math.Option.{Option, none, some}
+use Rattle.std.specs.Prelude.{ℕ, ◌<◌, ◌≡◌, Bool, true, false, List, [], length, get_or, Option, Some, None}
+use Rattle.std.proofs.Math.Option as math
+use Rattle.std.proofs.Math.Option.{none, some}
 use Rattle.base_readers.specs.Parsers.{nothing, got}
 use Rattle.block_rules.specs.Fields.{fields}
 use Rattle.arc.specs.declared.Field.{Field}
-use Rattle.arc.specs.declared.Field.TheVariants as field
 use Rattle.arc.specs.declared.Counts.{Counts}
 use Rattle.arc.specs.declared.Gathered.{Gathered}
 use Rattle.arc_rules.specs.declared.Kind.{Kind}
 use Rattle.arc_rules.specs.declared.Kind.TheVariants.{Results, Signature, Seal, Other}
-use Rattle.tag_list.specs.declared.Listed.{Listed}
-use Rattle.tag_list.specs.declared.Listed.TheVariants as listed
 use Rattle.arc_rules.specs.Sets.{last_instance, Said, says}
 use Rattle.arc_rules.specs.Chain.{Sets, gathered, Outcome, complete_outcome}
 
 -- ==== fields
 
-abbrev pub field_of : ℕ → Listed → Field
-field_of i (listed.Read c) = field.Read i c
-field_of i listed.Unreadable = field.Unreadable
+abbrev pub field_said : Option Field → math.Option Said
+field_said (Some f) = some (record { instance = f.instance; cv = f.cv })
+field_said None = none
 
-abbrev pub field_said : Field → Option Said
-field_said (field.Read i c) = some (record { instance = i; cv = c })
-field_said field.Unreadable = none
-
-unfoldable pub said_of : Kind → List ℕ → Option Said
+unfoldable pub said_of : Kind → List ℕ → math.Option Said
 said_of k body = elim (says k body) [ nothing ↦ none | got x n ↦ some x ]
 
 abbrev pub is_other : Kind → Bool

@@ -20,53 +20,48 @@
 // is pass.
 #![tactic(auto)]
 
-ghost use Rattle.std.specs.Prelude.{◌≡◌, cond, ◌≤◌, ◌<◌, ltb, length, take};
+ghost use Rattle.std.specs.Prelude.{◌≡◌, ◌≤◌, ◌<◌, length, take};
 ghost use Rattle.lexis_rules.specs.Limits.{byte_limit};
 ghost use Rattle.arc_rules.specs.Chain.{column, first, sealed, placed, noted, any_empty, prescribed, judged, judge};
 ghost use Rattle.arc_rules.specs.Sets.{last_instance};
 ghost use Rattle.arc_rules.specs.Answers.{answer_of};
-ghost use Rattle.arc.specs.Internal.{field_of, field_said, said_of, is_other, sets_of, GatheredFrom, Places, ranked_by};
+ghost use Rattle.arc.specs.Internal.{field_said, said_of, is_other, sets_of, GatheredFrom, Places, ranked_by};
 
-use arc_fields::{Instance, Start};
+use arc_fields::Instance;
 use arc_rules::{Judged, Kind};
 use base_answers::{ChainValue, Number, Reason};
 use block::{Next, Walk};
-use tag_list::Listed;
 
 // What an ARC field says: its instance, and a seal's chain value (0 for the other kinds).
-#[derive(Drop)]
-enum Field {
-    Read { instance: usize, cv: u8 },
-    Unreadable,
+#[derive(Clone, Copy)]
+struct Field {
+    instance: usize,
+    cv: u8,
 }
 
-fn field_of(instance: usize, l: Listed) -> Field
-    ensures { result ≡ field_of instance l }
-{
-    match l {
-        Listed::Read { cv } => Field::Read { instance, cv },
-        Listed::Unreadable => Field::Unreadable,
-    }
-}
-
-// What the body of a field of a kind says.
-fn read_field(kind: Kind, body: &[u8]) -> Field
+// What the body of a field of a kind says, if it can be read.
+fn read_field(kind: Kind, body: &[u8]) -> Option<Field>
     requires { length body.now ≤ byte_limit }
     ensures { field_said result ≡ said_of kind body.now }
 {
-    match arc_fields::instance_of(body) {
-        Start::Read { instance, end } => match kind {
-            Kind::Results => Field::Read { instance, cv: 0 },
-            Kind::Signature => field_of(instance, tag_list::list_at(false, body, end)),
-            Kind::Seal => field_of(instance, tag_list::list_at(true, body, end)),
-            Kind::Other => Field::Unreadable,
-        },
-        Start::Missing => Field::Unreadable,
+    let start = arc_fields::instance_of(body)?;
+    let instance = start.instance;
+    match kind {
+        Kind::Results => Some(Field { instance, cv: 0 }),
+        Kind::Signature => {
+            let cv = tag_list::list_at(false, body, start.end)?;
+            Some(Field { instance, cv })
+        }
+        Kind::Seal => {
+            let cv = tag_list::list_at(true, body, start.end)?;
+            Some(Field { instance, cv })
+        }
+        Kind::Other => None,
     }
 }
 
-// The numbers of the first unreadable and the first repeated field, 0 for none, and the highest instance.
-#[derive(Drop)]
+// The numbers of the first unreadable and the first repeated field, 0 for none, as the definition (`Sets`) and the answer have them, and the highest instance.
+#[derive(Clone, Copy)]
 struct Counts {
     unreadable: usize,
     repeated: usize,
@@ -79,15 +74,6 @@ fn first(a: usize, n: usize) -> usize
 {
     if a == 0 {
         return n;
-    }
-    a
-}
-
-fn highest(a: usize, b: usize) -> usize
-    ensures { result ≡ cond (ltb a b) b a }
-{
-    if a < b {
-        return b;
     }
     a
 }
@@ -130,29 +116,26 @@ fn keep_cv(kind: Kind, cvs: &mut [u8; Instance::LAST], instance: usize, cv: u8)
 fn place(
     kind: Kind,
     n: usize,
-    instance: usize,
-    cv: u8,
+    field: Field,
     places: &mut [[u16; 3]; Instance::LAST],
     cvs: &mut [u8; Instance::LAST],
     c: Counts,
 ) -> Counts
-    requires { ((1 ≤ instance) × (instance ≤ last_instance)) × ((column kind < 3) × (n < 65536)) }
-    ensures { sets_of places.new cvs.new result ≡ placed n kind (record { instance = instance; cv = cv }) (sets_of places.old cvs.old c) }
+    requires { ((1 ≤ field.instance) × (field.instance ≤ last_instance)) × ((column kind < 3) × (n < 65536)) }
+    ensures { sets_of places.new cvs.new result ≡ placed n kind (record { instance = field.instance; cv = field.cv }) (sets_of places.old cvs.old c) }
 {
     let k = column(kind);
-    if places[instance - 1][k] != 0 {
+    if places[field.instance - 1][k] != 0 {
         return Counts {
-            unreadable: c.unreadable,
             repeated: first(c.repeated, n),
-            highest: c.highest,
+            ..c
         };
     }
-    places[instance - 1][k] = narrow(n);
-    keep_cv(kind, cvs, instance, cv);
+    places[field.instance - 1][k] = narrow(n);
+    keep_cv(kind, cvs, field.instance, field.cv);
     Counts {
-        unreadable: c.unreadable,
-        repeated: c.repeated,
-        highest: highest(c.highest, instance),
+        highest: c.highest.max(field.instance),
+        ..c
     }
 }
 
@@ -184,11 +167,10 @@ fn note(
         return c;
     }
     match read_field(kind, body) {
-        Field::Read { instance, cv } => place(kind, n, instance, cv, places, cvs, c),
-        Field::Unreadable => Counts {
+        Some(field) => place(kind, n, field, places, cvs, c),
+        None => Counts {
             unreadable: first(c.unreadable, n),
-            repeated: c.repeated,
-            highest: c.highest,
+            ..c
         },
     }
 }
@@ -201,7 +183,7 @@ struct Gathered {
     counts: Counts,
 }
 
-// Notes all fields of a block, up to the first refusal.
+// Notes all fields of a block, up to the first refusal. The walk goes on from what the splitter answers, so there is no range to go over.
 fn read_sets(
     s: &[u8],
     places: &mut [[u16; 3]; Instance::LAST],
@@ -255,17 +237,13 @@ fn has_empty(places: &[[u16; 3]; Instance::LAST], n: usize) -> bool
     ensures { result ≡ any_empty (take n places.now) }
 {
     let mut found = false;
-    let mut i: usize = 0;
-    'search: while i < n {
-        let mut k: usize = 0;
-        while k < 3 {
+    'search: for i in 0..n {
+        for k in 0..3 {
             if places[i][k] == 0 {
                 found = true;
                 break 'search;
             }
-            k += 1;
         }
-        i += 1;
     }
     found
 }
@@ -278,17 +256,7 @@ fn is_prescribed(cvs: &[u8; Instance::LAST], n: usize) -> bool
     if n == 0 {
         return true;
     }
-    if cvs[0] != ChainValue::NONE {
-        return false;
-    }
-    let mut i: usize = 1;
-    while i < n {
-        if cvs[i] != ChainValue::PASS {
-            return false;
-        }
-        i += 1;
-    }
-    true
+    cvs[0] == ChainValue::NONE && cvs[1..n].iter().all(|cv| *cv == ChainValue::PASS)
 }
 
 // The answer where every ARC field reads, none is repeated, and n is the highest instance.

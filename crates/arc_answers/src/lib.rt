@@ -12,31 +12,14 @@ use base_answers::{Number, Outcome, Reason, Status, Verdict};
 fn are_valid(n: usize, v: &[u8]) -> bool
     ensures { result ≡ valid_for n v.now }
 {
-    if v.len() != n {
-        return false;
-    }
-    let mut i: usize = 0;
-    while i < v.len() {
-        if v[i] > Verdict::MOST {
-            return false;
-        }
-        i += 1;
-    }
-    true
+    v.len() == n && v.iter().all(|verdict| *verdict <= Verdict::MOST)
 }
 
 // Whether all seals are good.
 fn seals_good(v: &[u8]) -> bool
     ensures { result ≡ all seal_good v.now }
 {
-    let mut i: usize = 0;
-    while i < v.len() {
-        if v[i] < Verdict::SEAL {
-            return false;
-        }
-        i += 1;
-    }
-    true
+    v.iter().all(|verdict| *verdict >= Verdict::SEAL)
 }
 
 // Whether all seals and the last signature are good.
@@ -56,12 +39,12 @@ fn is_pass(v: &[u8]) -> bool
 fn oldest_pass(v: &[u8]) -> usize
     ensures { result ≡ oldest_pass v.now }
 {
-    let mut i = v.len();
-    while i > 0 {
-        if v[i - 1] % 2 == 0 {
-            return i + 1;
+    let mut rest = v;
+    while let Some((last, front)) = rest.split_last() {
+        if *last % 2 == 0 {
+            return rest.len() + 1;
         }
-        i -= 1;
+        rest = front;
     }
     0
 }

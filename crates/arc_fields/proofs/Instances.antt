@@ -80,15 +80,15 @@ module _ (s : List ℕ) (at a c : ℕ) (q : a ≡ at + space (drop at s)) where
   unfolding starts
   met h = rw (moved, drop-cons s a 0 h)
 
-  pub separator-there : a < length s → get_or s a 0 ≡ c → a + 1 ≡ at + separated c (drop at s)
-  separator-there h i = omega (arith, separated-yes c (drop at s) (met h ∙ eq-eqb (get_or s a 0) c i))
+  pub separator-there : a < length s → get_or s a 0 ≡ c → (a + 1 ≡ at + separated c (drop at s)) × (at < a + 1)
+  separator-there h i = (omega (arith, separated-yes c (drop at s) (met h ∙ eq-eqb (get_or s a 0) c i)), omega arith)
 
-  pub separator-other : a < length s → (get_or s a 0 ≡ c → ⊥) → at ≡ at + separated c (drop at s)
-  separator-other h i = omega (arith, separated-no c (drop at s) (met h ∙ ne_eqb (get_or s a 0) c i))
+  pub separator-other : a < length s → (get_or s a 0 ≡ c → ⊥) → separated c (drop at s) ≡ 0
+  separator-other h i = separated-no c (drop at s) (met h ∙ ne_eqb (get_or s a 0) c i)
 
-  pub separator-past : length s ≤ a → at ≡ at + separated c (drop at s)
+  pub separator-past : length s ≤ a → separated c (drop at s) ≡ 0
   unfolding starts
-  separator-past h = omega (arith, separated-no c (drop at s) (rw (moved, drop_of_length-le s h)))
+  separator-past h = separated-no c (drop at s) (rw (moved, drop_of_length-le s h))
 
 -- a parser goes on behind such a byte, and stops where there is none
 module _ {A : Type 0} (c : ℕ) (k : Parser A) (s : List ℕ) (at e : ℕ) (q : e ≡ at + separated c (drop at s)) where

@@ -1,14 +1,14 @@
 // The instance at the front of the body of an ARC field (RFC 8617, 4.2.1).
 #![tactic(auto)]
 
-ghost use Rattle.std.specs.Prelude.{◌≡◌, true, ◌+◌, ◌-◌, drop, length};
+ghost use Rattle.std.specs.Prelude.{◌≡◌, true, ◌-◌, length};
 ghost use Rattle.base_readers.specs.Texts.{within};
 ghost use Rattle.base_readers.specs.Readers.{run};
 ghost use Rattle.base_readers.specs.Places.{from};
 ghost use Rattle.lexis_rules.specs.Bytes.{in_class};
 ghost use Rattle.arc_rules.specs.Sets.{first_instance, last_instance, instance};
 ghost use Rattle.arc_fields.specs.Answers.{no_instance, start_got};
-ghost use Rattle.arc_fields.specs.Internal.{separated, worth, numbered};
+ghost use Rattle.arc_fields.specs.Internal.{SeparatedAt, worth, numbered};
 
 use lexis_rules::Class;
 
@@ -45,17 +45,17 @@ impl Instance {
     }
 }
 
-// The place after a byte with the space before it, and the place itself where there is no such byte.
-fn separator_end(s: &[u8], at: usize, b: u8) -> usize
-    ensures { result ≡ at + separated b (drop at s.now) }
+// The place after a byte with the space before it, where there is such a byte.
+fn separator_end(s: &[u8], at: usize, b: u8) -> Option<usize>
+    ensures { SeparatedAt b s.now at result }
 {
     let a = lexis_space::space_end(s, at);
     if a < s.len() {
         if s[a] == b {
-            return a + 1;
+            return Some(a + 1);
         }
     }
-    at
+    None
 }
 
 // What a digit is worth.
@@ -63,13 +63,7 @@ fn digit(b: u8) -> usize
     requires { in_class Class.Digit b ≡ true }
     ensures { result ≡ b - 48 }
 {
-    wide(b - b'0')
-}
-
-fn wide(x: u8) -> usize
-    ensures { result ≡ x }
-{
-    x as usize
+    usize::from(b - b'0')
 }
 
 // What one or two digits are worth; 0 for none or for more.
@@ -87,45 +81,33 @@ fn worth(d: &[u8]) -> usize
 }
 
 // An instance and the place after its ";".
-#[derive(Drop)]
-pub enum Start {
-    Read { instance: usize, end: usize },
-    Missing,
+#[derive(Clone, Copy)]
+pub struct Start {
+    pub instance: usize,
+    pub end: usize,
 }
 
 // The instance whose digits start at a place.
-fn number_at(s: &[u8], at: usize) -> Start
+fn number_at(s: &[u8], at: usize) -> Option<Start>
     ensures { start_got result ≡ from numbered s.now at }
 {
     let e = lexis_classes::run_end(s, at, Class::Digit);
     if e == at {
-        return Start::Missing;
+        return None;
     }
-    let n = worth(&s[at..e]);
-    if Instance::is_number(n) {
-        let f = separator_end(s, e, b';');
-        if f == e {
-            return Start::Missing;
-        }
-        return Start::Read {
-            instance: n,
-            end: f,
-        };
+    let instance = worth(&s[at..e]);
+    if !Instance::is_number(instance) {
+        return None;
     }
-    Start::Missing
+    let end = separator_end(s, e, b';')?;
+    Some(Start { instance, end })
 }
 
 // The instance of a body.
-pub fn instance_of(body: &[u8]) -> Start
+pub fn instance_of(body: &[u8]) -> Option<Start>
     ensures { start_got result ≡ instance body.now }
 {
-    let a = separator_end(body, 0, b'i');
-    if a == 0 {
-        return Start::Missing;
-    }
-    let b = separator_end(body, a, b'=');
-    if b == a {
-        return Start::Missing;
-    }
+    let a = separator_end(body, 0, b'i')?;
+    let b = separator_end(body, a, b'=')?;
     number_at(body, lexis_space::space_end(body, b))
 }

@@ -1,5 +1,6 @@
 // The numbers that calls answer with, by name, each once: those of document 01, "Answer numbers", and of the tickets that add one; the outcomes, reasons and statuses of a chain;
-// its chain values; and what a verdict counts. There are no functions here.
+// its chain values; and what a verdict counts. There are no functions here. They are numbers and no enums: the C structs hand them on, and document 01 and the
+// theorems of `promises` (Demand1, Ticket14) name them.
 #![tactic(auto)]
 
 // What a call answers: 0 and 8 are reports, all others refusals.

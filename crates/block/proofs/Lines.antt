@@ -4,16 +4,14 @@ use Prim.Native.Char.{code}
 use Prim.Native.Nat.{ℕ, suc, ◌+◌, ◌-◌, ◌≤◌, ◌<◌}
 use native.Mathlib.Omega.{arith}
 use mathlib.Core.Path.{◌≡◌, refl, sym, ◌∙◌}
-use mathlib.Core.Bool.{Bool, true, false, not, cond}
+use mathlib.Core.Bool.{Bool, true, false, cond}
 use mathlib.Core.List.{List, [], ◌∷◌}
 use borrow.Author.Tests.{le-leb, lt-leb}
-use lib.Dec.{eqb, leb}
+use lib.Dec.{eqb}
 use lib.ListN.{length, get_or, drop, length-drop, drop_of_length-le}
 use lib.Seq.{drop-drop}
-use Rattle.base_sequences.proofs.Booleans.{and_none}
-use Rattle.base_readers.specs.Texts.{within}
 use Rattle.base_readers.specs.Readers.{run, many}
-use Rattle.lexis_rules.specs.declared.Class.TheVariants.{Blank, Name}
+use Rattle.lexis_rules.specs.declared.Class.TheVariants.{Blank}
 use Rattle.lexis_rules.specs.Bytes.{in_class}
 use Rattle.block.specs.declared.Next.{Next}
 use Rattle.block.specs.declared.Next.TheVariants.{Field, End, Refused}
@@ -21,20 +19,6 @@ use Rattle.block_rules.specs.Fields.{line_text, line, name, name_colon, folded, 
 use Rattle.block.specs.Steps.{next_of, next_from, finished_at, finished}
 use Rattle.base_readers.proofs.Places.{behind-first}
 use Rattle.block_laws.proofs.Lines.{label-zero, label-suc, field-2, field-3, field-4, field_is, closed-2, closed_is}
-
--- ==== names
-
-pub name-byte : (b : ℕ) → 33 ≤ b → b ≤ 126 → in_class Name b ≡ not (eqb b (code ":"))
-unfolding in_class within
-name-byte b h k = rw (le-leb 33 b h, le-leb b 126 k)
-
-pub name_below : (b : ℕ) → b < 33 → false ≡ in_class Name b
-unfolding in_class within
-name_below b h = rw (lt-leb 33 b h)
-
-pub name-above : (b : ℕ) → 126 < b → false ≡ in_class Name b
-unfolding in_class within
-name-above b h = rw (lt-leb b 126 h, and_none (leb 33 b))
 
 -- ==== labels
 

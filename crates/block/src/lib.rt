@@ -8,15 +8,17 @@
 #![tactic(auto)]
 
 ghost use Rattle.std.specs.Prelude.{◌≡◌, ◌+◌, drop};
+ghost use Rattle.lexis_rules.specs.declared.Class.TheVariants.{Name};
 ghost use Rattle.lexis_rules.specs.Bytes.{in_class};
 ghost use Rattle.block_rules.specs.Fields.{name, name_colon};
 ghost use Rattle.block.specs.Steps.{fresh_walk, next_at, finished};
 
 use base_answers::Number;
+use base_runs::ByteTest;
 use lexis_rules::Class;
 
 // Where a walk over a block stands, and how many fields it has passed.
-#[derive(Drop)]
+#[derive(Clone, Copy)]
 pub struct Walk {
     pub at: usize,
     pub count: usize,
@@ -34,7 +36,8 @@ impl Walk {
     }
 }
 
-// What stands at a place of a walk. A field runs from `start` up to `end`, its last CRLF included; its name from `start` up to
+// What stands at a place of a walk. It is no `Result` with an error enum: `next_field` keeps its answers, whose numbers are those of document 01 and
+// of the C interface. A field runs from `start` up to `end`, its last CRLF included; its name from `start` up to
 // `name_end`, its body from `body_start` up to two before `end`.
 #[derive(Drop)]
 pub enum Next {
@@ -49,6 +52,22 @@ pub enum Next {
         number: u8,
         place: usize,
     },
+}
+
+// The bytes of a name.
+#[derive(Drop)]
+struct InName;
+
+impl ByteTest for InName {
+    ghost passes = { λ t. in_class Name };
+
+    // All from 33 to 126 but colon.
+    fn passes(&self, b: u8) -> bool {
+        match b {
+            b'!'..=b'~' => b != b':',
+            _ => false,
+        }
+    }
 }
 
 // The place after the colon, where the name ends at n: the place itself where name or colon lacks.
@@ -101,7 +120,7 @@ fn next_by_lines(s: &[u8], w: Walk) -> Next
             place: block_lines::line_text(s, at),
         };
     }
-    let n = lexis_classes::run_end(s, at, Class::Name);
+    let n = InName.run_end(s, at);
     let b = label_end(s, at, n);
     if b == at {
         return Next::Refused {
@@ -118,34 +137,6 @@ fn next_by_lines(s: &[u8], w: Walk) -> Next
     finish(s, at, l, n, b)
 }
 
-// Whether a byte may stand in a name.
-fn in_name(b: u8) -> bool
-    ensures { result ≡ in_class Class.Name b }
-{
-    if b < 33 {
-        return false;
-    }
-    if b > 126 {
-        return false;
-    }
-    b != b':'
-}
-
-// The end of a name.
-fn name_end(s: &[u8], at: usize) -> usize
-    ensures { result ≡ at + name (drop at s.now) }
-{
-    let mut i = at;
-    while i < s.len() {
-        if in_name(s[i]) {
-            i += 1;
-        } else {
-            return i;
-        }
-    }
-    i
-}
-
 // What stands at a place of a walk. A field whose lines are all whole is found without a look at each of them.
 pub fn next_field(s: &[u8], w: Walk) -> Next
     ensures { result ≡ next_at s.now w }
@@ -156,7 +147,7 @@ pub fn next_field(s: &[u8], w: Walk) -> Next
     if e == at {
         return next_by_lines(s, w);
     }
-    let n = name_end(s, at);
+    let n = InName.run_end(s, at);
     let b = label_end(s, at, n);
     if b == at {
         return Next::Refused {

@@ -32,16 +32,8 @@ pub fn place_past(block: &[u8], from: usize) -> usize
     ensures { result ≡ past_from block.now from }
 {
     match field_from(block, from) {
-        Step::Field {
-            start: _,
-            name_end: _,
-            body_start: _,
-            end,
-        } => end,
-        Step::Last {
-            number: _,
-            place: _,
-        } => from,
+        Step::Field { end, .. } => end,
+        Step::Last { .. } => from,
     }
 }
 

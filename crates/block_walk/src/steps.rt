@@ -9,7 +9,7 @@ use base_answers::Number;
 use block::{Next, Walk};
 use block_walk_rules::Step;
 
-// A step from any place of a block, or past it.
+// A step from any place of a block, or past it. The walk goes on from what the splitter answers, so there is no range to go over.
 pub fn step_from(block: &[u8], from: usize) -> Step
     ensures { result ≡ step_from block.now from }
 {
@@ -19,11 +19,9 @@ pub fn step_from(block: &[u8], from: usize) -> Step
             place: 0,
         };
     }
-    let fresh = Walk::fresh();
-    let mut at = fresh.at;
-    let mut count = fresh.count;
+    let mut walk = Walk::fresh();
     loop {
-        match block::next_field(block, Walk { at, count }) {
+        match block::next_field(block, walk) {
             Next::Field {
                 start,
                 name_end,
@@ -38,8 +36,10 @@ pub fn step_from(block: &[u8], from: usize) -> Step
                         end,
                     };
                 }
-                at = end;
-                count += 1;
+                walk = Walk {
+                    at: end,
+                    count: walk.count + 1,
+                };
             }
             Next::End => {
                 return Step::Last {

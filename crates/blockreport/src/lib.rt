@@ -31,7 +31,8 @@ use blockreport_rules::{BlockReported, Detail};
 use ownlist_ready::Ready;
 use text_first_pass::Copy;
 
-// Writes what the fields add over the front of `out`, up to the first refusal; where it does not fit, something may be lost of `out`.
+// Writes what the fields add over the front of `out`, up to the first refusal; where it does not fit, something may be lost of `out`. The walk goes on from
+// what the splitter answers, so there is no range to go over.
 fn put_fields(detail: Detail, s: &[u8], own: &[u8], out: &mut [u8]) -> BlockReported
     requires { length s.now ≤ byte_limit }
     ensures { FieldsPut detail s.now (own_of_spelled (lines_of own.now)) out.old out.new result }

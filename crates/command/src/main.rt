@@ -12,33 +12,43 @@
 // written. `bin/orbendash` takes the exit status from that line and takes its absence for a failure, so nothing that goes wrong on the way can look like success.
 #![tactic(auto)]
 
-use command_files::Opened;
+ghost use Rattle.command_files.specs.Transfers.{Taken};
+
+use command_files::Incomplete;
 use command_output_rules::Made;
 use command_rules::{Asked, Ending};
-use std::fs::File;
 
 // Writes the last line, in one call; `list` is our own list. Where that fails there is nothing left to tell it by: the line is missing.
 fn end(rt: &HostRuntime, ending: Ending, list: &[u8]) {
     let mut line = command_buffers::line();
     let n = command_message::put_ending(ending, list, &mut line, 0);
-    command_files::write_whole(&mut rt.stderr(), text_parts::part(&line, 0, n));
+    let _ = command_files::write_whole(&mut rt.stderr(), text_parts::part(&line, 0, n));
 }
 
 // Writes to standard error what is noticed of our own list. Where it can't be written the command goes on: it is a help, and no answer.
 fn tell_notes(rt: &HostRuntime, list: &[u8]) {
     let mut notes = command_buffers::list();
     let n = command_list::put_notes(list, &mut notes, 0);
-    command_files::write_whole(&mut rt.stderr(), text_parts::part(&notes, 0, n));
+    let _ = command_files::write_whole(&mut rt.stderr(), text_parts::part(&notes, 0, n));
 }
 
 // Writes the output, which stands at the front of this buffer, and answers how the command ends.
 fn sent(rt: &HostRuntime, made: Made, out: &[u8]) -> Ending {
     let went = command_files::write_whole(&mut rt.stdout(), text_parts::part(out, 0, made.written));
-    command_ending::ending_after(made, went)
+    command_ending::ending_after(made, went.is_ok())
 }
 
-// Writes the output, what is noticed of our own list, and the last line.
-fn finish(rt: &HostRuntime, made: Made, out: &[u8], list: &[u8]) {
+// Makes the output of a block by our own list in this buffer, and writes it, what is noticed of the list, and the last line.
+fn answer<F: FnOnce(&[u8], &[u8], &mut [u8]) -> Made>(
+    rt: &HostRuntime,
+    block: &[u8],
+    list: &[u8],
+    out: &mut [u8],
+    make: F,
+)
+    requires { F.IsAlwaysCallable make }
+{
+    let made = make(block, list, out);
     let ending = sent(rt, made, out);
     tell_notes(rt, list);
     end(rt, ending, list);
@@ -47,12 +57,27 @@ fn finish(rt: &HostRuntime, made: Made, out: &[u8], list: &[u8]) {
 // Each with a buffer of its own.
 fn strip(rt: &HostRuntime, block: &[u8], list: &[u8]) {
     let mut out = command_buffers::block();
-    let made = command_subcommands::strip_block(block, list, &mut out);
-    finish(rt, made, &out, list);
+    answer(rt, block, list, &mut out, command_subcommands::strip_block);
 }
 
-// Writes to standard error which fields go, and answers whether all of that has gone.
-fn tell_log(rt: &HostRuntime, block: &[u8], list: &[u8]) -> bool {
+fn report(rt: &HostRuntime, block: &[u8], list: &[u8]) {
+    let mut out = command_buffers::reports();
+    answer(rt, block, list, &mut out, command_subcommands::report_block);
+}
+
+fn explain(rt: &HostRuntime, block: &[u8], list: &[u8]) {
+    let mut out = command_buffers::explained();
+    answer(
+        rt,
+        block,
+        list,
+        &mut out,
+        command_subcommands::explain_block,
+    );
+}
+
+// Writes to standard error which fields go.
+fn tell_log(rt: &HostRuntime, block: &[u8], list: &[u8]) -> Result<(), Incomplete> {
     let mut log = command_buffers::reports();
     let n = command_log::put_log(block, list, &mut log);
     command_files::write_whole(&mut rt.stderr(), text_parts::part(&log, 0, n))
@@ -60,139 +85,97 @@ fn tell_log(rt: &HostRuntime, block: &[u8], list: &[u8]) -> bool {
 
 // Strips once the fields that go have been logged. Who asks for a log must lose no field without one: where it can't be written whole, no output is.
 fn strip_logged(rt: &HostRuntime, block: &[u8], list: &[u8]) {
-    if tell_log(rt, block, list) {
-        strip(rt, block, list);
-    } else {
-        end(rt, Ending::Unwritten, list);
+    match tell_log(rt, block, list) {
+        Ok(()) => strip(rt, block, list),
+        Err(Incomplete) => end(rt, Ending::Unwritten, list),
     }
 }
 
-fn report(rt: &HostRuntime, block: &[u8], list: &[u8]) {
-    let mut out = command_buffers::reports();
-    let made = command_subcommands::report_block(block, list, &mut out);
-    finish(rt, made, &out, list);
+// Reads standard input to its end, and returns how many bytes stand at the front of the buffer.
+fn read_input(rt: &HostRuntime, buf: &mut [u8]) -> Result<usize, Ending>
+    ensures { Taken result buf.new }
+{
+    command_files::read_whole(&mut rt.stdin(), buf).map_err(|_| Ending::InputUnread)
 }
 
-fn explain(rt: &HostRuntime, block: &[u8], list: &[u8]) {
-    let mut out = command_buffers::explained();
-    let made = command_subcommands::explain_block(block, list, &mut out);
-    finish(rt, made, &out, list);
+// Reads the list that the second argument names, and returns how many bytes stand at the front of the buffer.
+fn read_list(rt: &HostRuntime, buf: &mut [u8]) -> Result<usize, Ending>
+    ensures { Taken result buf.new }
+{
+    let mut path = command_buffers::word();
+    let n = command_files::argument(rt, 2, &mut path);
+    let mut file = command_files::open(rt, &path[..n]).ok_or(Ending::ListClosed)?;
+    command_files::read_whole(&mut file, buf).map_err(|_| Ending::ListUnread)
 }
 
-// Does what is asked for by a list with a block.
-fn with_block(rt: &HostRuntime, asked: Asked, block: &[u8], list: &[u8]) {
-    match asked {
-        Asked::Strip => strip(rt, block, list),
-        Asked::Log => strip_logged(rt, block, list),
-        Asked::Report => report(rt, block, list),
-        Asked::Explain => explain(rt, block, list),
-        Asked::Judge => end(rt, Ending::Usage, list),
-        Asked::Check => end(rt, Ending::Usage, list),
-        Asked::Write => end(rt, Ending::Usage, list),
-        Asked::Nothing => end(rt, Ending::Usage, list),
-    }
-}
-
-// Reads the list and the block, and does what is asked.
-fn run(rt: &HostRuntime, list_file: &mut File, asked: Asked) {
+// Reads the list and the block, and does with them what is asked.
+fn with_block<F: FnOnce(&HostRuntime, &[u8], &[u8])>(rt: &HostRuntime, run: F) -> Result<(), Ending>
+    requires { F.IsAlwaysCallable run }
+{
     let mut list = command_buffers::list();
-    let entries = command_files::read_whole(list_file, &mut list);
-    if !entries.whole {
-        end(rt, Ending::ListUnread, &list[..0]);
-        return;
-    }
+    let m = read_list(rt, &mut list)?;
     let mut block = command_buffers::block();
-    let fields = command_files::read_whole(&mut rt.stdin(), &mut block);
-    if !fields.whole {
-        end(rt, Ending::InputUnread, &list[..0]);
-        return;
-    }
-    let m = entries.length;
-    let n = fields.length;
-    with_block(rt, asked, &block[..n], &list[..m]);
+    let n = read_input(rt, &mut block)?;
+    run(rt, &block[..n], &list[..m]);
+    Ok(())
 }
 
 // Reads the list, and says how it is compared and what is noticed of it. Nothing else is read.
-fn check(rt: &HostRuntime, list_file: &mut File) {
+fn check(rt: &HostRuntime) -> Result<(), Ending> {
     let mut list = command_buffers::list();
-    let entries = command_files::read_whole(list_file, &mut list);
-    if !entries.whole {
-        end(rt, Ending::ListUnread, &list[..0]);
-        return;
-    }
-    let m = entries.length;
+    let m = read_list(rt, &mut list)?;
     let mut out = command_buffers::reports();
     let made = command_subcommands::check_list(&list[..m], &mut out);
     let ending = sent(rt, made, &out);
     end(rt, ending, &list[..m]);
-}
-
-// Does with a list what is asked.
-fn with_file(rt: &HostRuntime, list_file: &mut File, asked: Asked) {
-    match asked {
-        Asked::Check => check(rt, list_file),
-        _ => run(rt, list_file, asked),
-    }
-}
-
-// Opens the list that the second argument names.
-fn with_list(rt: &HostRuntime, asked: Asked) {
-    let mut path = command_buffers::word();
-    let n = command_files::argument(rt, 2, &mut path);
-    match command_files::open(rt, &path[..n]) {
-        Opened::File(mut file) => with_file(rt, &mut file, asked),
-        Opened::Closed => end(rt, Ending::ListClosed, b""),
-    }
+    Ok(())
 }
 
 // Reads the block, and judges it by the verdicts that the second argument says.
-fn with_verdicts(rt: &HostRuntime) {
+fn judge(rt: &HostRuntime) -> Result<(), Ending> {
     let mut word = command_buffers::word();
     let m = command_files::argument(rt, 2, &mut word);
     let mut block = command_buffers::block();
-    let fields = command_files::read_whole(&mut rt.stdin(), &mut block);
-    if !fields.whole {
-        end(rt, Ending::InputUnread, b"");
-        return;
-    }
-    let n = fields.length;
+    let n = read_input(rt, &mut block)?;
     let mut out = command_buffers::judgement();
     let made = command_subcommands::judge_block(&block[..n], &mut word[..m], &mut out);
     let ending = sent(rt, made, &out);
     end(rt, ending, b"");
+    Ok(())
 }
 
 // Reads report lines, and writes their body where there are no more of them than were read.
-fn with_lines(rt: &HostRuntime) {
+fn write(rt: &HostRuntime) -> Result<(), Ending> {
     let mut lines = command_buffers::lines();
-    let input = command_files::read_whole(&mut rt.stdin(), &mut lines);
-    if !input.whole {
-        end(rt, Ending::InputUnread, b"");
-        return;
-    }
-    let n = input.length;
+    let n = read_input(rt, &mut lines)?;
     if n >= command_buffers::LINES {
-        end(rt, Ending::InputTooLong, b"");
-        return;
+        return Err(Ending::InputTooLong);
     }
     let mut out = command_buffers::block();
     let made = command_subcommands::write_body(&lines[..n], &mut out);
     let ending = sent(rt, made, &out);
     end(rt, ending, b"");
+    Ok(())
 }
 
-// Does what the words ask for. One that is too long for the buffer asks for nothing.
-fn main(rt: HostRuntime) {
+// Does what the words ask for, or answers how the command ends where its last line is still to be written, and speaks of no list.
+fn run(rt: &HostRuntime) -> Result<(), Ending> {
     let mut word = command_buffers::word();
-    let n = command_files::argument(&rt, 1, &mut word);
-    match command_words::asked(command_files::argument_count(&rt), &word[..n]) {
-        Asked::Strip => with_list(&rt, Asked::Strip),
-        Asked::Log => with_list(&rt, Asked::Log),
-        Asked::Report => with_list(&rt, Asked::Report),
-        Asked::Explain => with_list(&rt, Asked::Explain),
-        Asked::Judge => with_verdicts(&rt),
-        Asked::Check => with_list(&rt, Asked::Check),
-        Asked::Write => with_lines(&rt),
-        Asked::Nothing => end(&rt, Ending::Usage, b""),
+    let n = command_files::argument(rt, 1, &mut word);
+    match command_words::asked(command_files::argument_count(rt), &word[..n]) {
+        Some(Asked::Strip) => with_block(rt, strip),
+        Some(Asked::Log) => with_block(rt, strip_logged),
+        Some(Asked::Report) => with_block(rt, report),
+        Some(Asked::Explain) => with_block(rt, explain),
+        Some(Asked::Judge) => judge(rt),
+        Some(Asked::Check) => check(rt),
+        Some(Asked::Write) => write(rt),
+        None => Err(Ending::Usage),
+    }
+}
+
+fn main(rt: HostRuntime) {
+    if let Err(ending) = run(&rt) {
+        end(&rt, ending, b"");
     }
 }

@@ -1,11 +1,8 @@
 -- What can be said of a transfer, though not what is read or written.
-use Rattle.std.specs.Prelude.{ℕ, zero, suc, ◌≤◌, ◌<◌, min, ◌≡◌, Option, Result, Ok, IsErr, Bool, true, false, List, eqb, ℤ, pos, negsuc, length, take}
+use Rattle.std.specs.Prelude.{ℕ, zero, suc, ◌≤◌, ◌<◌, min, ◌≡◌, Option, Result, Ok, IsOk, IfOk, OnOk, IsErr, IsNone, Bool, true, false, List, eqb, ℤ, pos, negsuc, length, take}
 use Rattle.std.specs.Io.KnownBytes.{Consumes, IsAtEnd, Appends}
-use Rattle.command_files.specs.declared.Input.{Input}
 use Rattle.command_files.specs.declared.Turn.{Turn}
 use Rattle.command_files.specs.declared.Turn.TheVariants as turns
-use Rattle.command_files.specs.declared.Opened.{Opened}
-use Rattle.command_files.specs.declared.Opened.TheVariants as opened
 
 -- errno tells that a signal interrupted a call: EINTR
 unfoldable pub interrupted : ℤ → Bool
@@ -29,23 +26,23 @@ Answered a turns.Failed = IsErr a
 abbrev pub IsPrefixLen : ℕ → List ℕ → Type 0
 IsPrefixLen n xs = (n ≤ length xs) × (n ≡ length (take n xs))
 
--- the bytes that were read stand at the front of the buffer; of an input that was not read whole there are none
-abbrev pub Taken : Input → List ℕ → Type 0
-Taken r buf = IsPrefixLen r.length buf × (r.whole ≡ false → r.length ≡ 0)
+-- the bytes that were read stand at the front of the buffer
+abbrev pub Taken : {E : Type 0} → Result ℕ E → List ℕ → Type 0
+Taken r buf = IfOk r (λ n. IsPrefixLen n buf)
 
 -- of a reader that says which bytes it gives (`old` before, `new` after, None where it does not say): an input that was read whole is what it gave,
 -- and where it did not fill the buffer, there are no more
-abbrev pub Reads : Option (List ℕ) → Option (List ℕ) → Input → List ℕ → Type 0
-Reads old new r buf = r.whole ≡ true → Consumes old new (take r.length buf) × (r.length < length buf → IsAtEnd new)
+abbrev pub Reads : {E : Type 0} → Option (List ℕ) → Option (List ℕ) → Result ℕ E → List ℕ → Type 0
+Reads old new r buf = IfOk r (λ n. Consumes old new (take n buf) × (n < length buf → IsAtEnd new))
 
 -- a text of no bytes is written
-abbrev pub Gone : List ℕ → Bool → Type 0
-Gone text r = length text ≡ 0 → r ≡ true
+abbrev pub Gone : {T E : Type 0} → List ℕ → Result T E → Type 0
+Gone text r = length text ≡ 0 → IsOk r
 
 -- of a writer that says which bytes it holds (`old` before, `new` after): a text that was written is what it took
-abbrev pub Writes : Option (List ℕ) → Option (List ℕ) → List ℕ → Bool → Type 0
-Writes old new text r = r ≡ true → Appends old new text
+abbrev pub Writes : {T E : Type 0} → Option (List ℕ) → Option (List ℕ) → List ℕ → Result T E → Type 0
+Writes old new text r = OnOk r (Appends old new text)
 
 -- a path of no bytes is that of no file
-abbrev pub Found : List ℕ → Opened → Type 0
-Found path r = length path ≡ 0 → r ≡ opened.Closed
+abbrev pub Found : {T : Type 0} → List ℕ → Option T → Type 0
+Found path r = length path ≡ 0 → IsNone r

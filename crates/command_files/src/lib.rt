@@ -36,14 +36,11 @@ const EIO: i32 = 5;
 // The most calls that are made for one file or text: far more than it has bytes, so only a call that is interrupted again and again reaches it.
 const CALLS: u32 = 4000000000;
 
-// What came of reading: whether the end of the input or of the buffer was reached, and how many bytes stand at the front of the buffer.
-#[derive(Drop)]
-pub struct Input {
-    pub whole: bool,
-    pub length: usize,
-}
+// An input that was not read to its end, or a text that was not written whole.
+#[derive(Clone, Copy)]
+pub struct Incomplete;
 
-// What came of one call of read or write.
+// What came of one call of read or write. A `Result` of an `Option` would say less plainly which of the four it was.
 #[derive(Drop)]
 pub enum Turn {
     // So many bytes at the front were moved.
@@ -53,13 +50,6 @@ pub enum Turn {
     // A signal came first: the call is to be made again.
     Interrupted,
     Failed,
-}
-
-// A file that can be read, or none.
-#[derive(Drop)]
-pub enum Opened {
-    File(File),
-    Closed,
 }
 
 // Tells what came of a call of read or write, by what it answered, errno and the bytes that it was handed.
@@ -110,97 +100,71 @@ fn after_answer(answer: io::Result<usize>, buf: &[u8]) -> Turn
     }
 }
 
-// Reads until the buffer is full or the input ends. A read that fails is told, wherever it happens.
-pub fn read_whole<R: Read>(file: &mut R, buf: &mut [u8]) -> Input
+// Reads until the buffer is full or the input ends, and returns how many bytes stand at the front of the buffer. A read that fails is told, wherever it happens.
+pub fn read_whole<R: Read>(file: &mut R, buf: &mut [u8]) -> Result<usize, Incomplete>
     ensures taken { Taken result buf.new }
     ensures bytes { Reads (R.remaining file.old) (R.remaining file.new) result buf.new }
 {
     let mut done: usize = 0;
     for _ in 0..CALLS {
         if done >= buf.len() {
-            return Input {
-                whole: true,
-                length: done,
-            };
+            return Ok(done);
         }
         let answer = file.read(&mut buf[done..]);
         match after_answer(answer, &buf[done..]) {
             Turn::Moved(n) => done += n,
-            Turn::Ended => {
-                return Input {
-                    whole: true,
-                    length: done,
-                };
-            }
+            Turn::Ended => return Ok(done),
             Turn::Interrupted => {}
-            Turn::Failed => {
-                return Input {
-                    whole: false,
-                    length: 0,
-                };
-            }
+            Turn::Failed => return Err(Incomplete),
         }
     }
-    Input {
-        whole: false,
-        length: 0,
-    }
+    Err(Incomplete)
 }
 
-// Writes a text whole, or answers false; then some of it may have been written.
-pub fn write_whole<W: Write>(file: &mut W, text: &[u8]) -> bool
+// Writes a text whole; on an error some of it may have been written.
+pub fn write_whole<W: Write>(file: &mut W, text: &[u8]) -> Result<(), Incomplete>
     ensures gone { Gone text.now result }
     ensures bytes { Writes (W.contents file.old) (W.contents file.new) text.now result }
 {
     let mut done: usize = 0;
     for _ in 0..CALLS {
         if done >= text.len() {
-            return true;
+            return Ok(());
         }
         let answer = file.write(&text[done..]);
         match after_answer(answer, &text[done..]) {
             Turn::Moved(n) => done += n,
-            Turn::Ended => return false,
+            Turn::Ended => return Err(Incomplete),
             Turn::Interrupted => {}
-            Turn::Failed => return false,
+            Turn::Failed => return Err(Incomplete),
         }
     }
-    false
+    Err(Incomplete)
 }
 
-// Opens a file for reading. A path is UTF-8, as std has it: of any other there is no file.
-pub fn open(files: &impl Files<File = File>, path: &[u8]) -> Opened
+// Opens a file for reading, if there is one. A path is UTF-8, as std has it: of any other there is no file.
+pub fn open(files: &impl Files<File = File>, path: &[u8]) -> Option<File>
     ensures { Found path.now result }
 {
     if path.len() == 0 {
-        return Opened::Closed;
+        return None;
     }
-    let Ok(name) = str::from_utf8(path) else {
-        return Opened::Closed;
-    };
-    match fs::open(files, name) {
-        Ok(file) => Opened::File(file),
-        Err(_) => Opened::Closed,
-    }
+    let name = str::from_utf8(path).ok()?;
+    fs::open(files, name).ok()
 }
 
 // Puts an argument at the front of the buffer, and returns how many bytes it has: none where it is missing or longer than the buffer.
 pub fn argument(env: &impl Env, number: usize, word: &mut [u8]) -> usize
     ensures { IsPrefixLen result word.new }
 {
-    match env.arg(number, word) {
-        Ok(n) => n,
-        Err(_) => 0,
-    }
+    env.arg(number, word).unwrap_or(0)
 }
 
 // How many arguments there are, with the name of the program.
 pub fn argument_count(env: &impl Env) -> usize {
     for number in 0..usize::MAX {
-        match env.arg(number, &mut []) {
-            Err(FillError::NotPresent) => return number,
-            Err(FillError::TooLong) => {}
-            Ok(_) => {}
+        if let Err(FillError::NotPresent) = env.arg(number, &mut []) {
+            return number;
         }
     }
     usize::MAX

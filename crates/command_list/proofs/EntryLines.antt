@@ -1,4 +1,5 @@
 -- What is noticed of an entry as the code finds it, and the parts of its line stored one after another. The premises are literally what a need is handed.
+use Rattle.std.specs.Prelude.{Option, None, Some}
 use Prim.Native.Nat.{ℕ, ◌+◌, ◌-◌, ◌≤◌, ◌<◌, ◌^◌}
 use native.Mathlib.Omega.{arith}
 use mathlib.Core.Path.{◌≡◌, refl}
@@ -16,10 +17,10 @@ use Rattle.identifier_rules.specs.Identifier.{identifier_byte}
 use Rattle.report_rules.specs.Report.{escape}
 use Rattle.explain_columns.specs.Until.{except}
 use Rattle.command_list_rules.specs.declared.Notice.{Notice}
-use Rattle.command_list_rules.specs.declared.Notice.TheVariants.{Mark, Hash, Unbare, Star, Unnoticed}
+use Rattle.command_list_rules.specs.declared.Notice.TheVariants.{Mark, Hash, Unbare, Star}
 use Rattle.command_list_rules.specs.declared.Said.{Said}
 use Rattle.command_list_rules.specs.declared.Said.TheVariants.{Compared, Noticed, Noted}
-use Rattle.command_list_rules.specs.Notices.{marked, starless, leaves, notice_of, unbare, words, silent, entry_front, notice_line, compared_line, note_label, line_of}
+use Rattle.command_list_rules.specs.Notices.{marked, starless, leaves, notice_of, unbare, words, entry_front, noticed_line, notice_line, compared_line, note_label, line_of}
 
 -- nothing is stored
 pub nothing_put : (old : List ℕ) (to : ℕ) → to < 2 ^ 64 → Clipped old to [] old to
@@ -41,17 +42,17 @@ module _ (c : ℕ → Bool) (e : List ℕ) (i : ℕ) (q : i ≡ 0 + run c (drop 
   leaves-so h = lt-ltb (run c e) (length e) (omega arith)
 
 module _ (e : List ℕ) (a : Bool) (p : a ≡ marked e) where
-  pub notice-mark : a ≡ true → Mark ≡ notice_of e
+  pub notice-mark : a ≡ true → Some Mark ≡ notice_of e
   unfolding notice_of
   notice-mark t = rw (← p, t)
 
   module _ (t : a ≡ false) (b : Bool) (q : b ≡ eqb (get_or (drop 0 e) 0 0) 35) where
-    pub notice-hash : b ≡ true → Hash ≡ notice_of e
+    pub notice-hash : b ≡ true → Some Hash ≡ notice_of e
     unfolding notice_of
     notice-hash u = rw (← p, t, ← q, u)
 
     module _ (u : b ≡ false) (i : ℕ) (r : i ≡ 0 + run identifier_byte (drop 0 e)) where
-      pub notice-unbare : i < length e → Unbare ≡ notice_of e
+      pub notice-unbare : i < length e → Some Unbare ≡ notice_of e
       unfolding notice_of
       notice-unbare h = rw (← p, t, ← q, u, leaves-so identifier_byte e i r h)
 
@@ -60,11 +61,11 @@ module _ (e : List ℕ) (a : Bool) (p : a ≡ marked e) where
         unfolding starless
         starless-at = s
 
-        pub notice-star : j < length e → Star ≡ notice_of e
+        pub notice-star : j < length e → Some Star ≡ notice_of e
         unfolding notice_of
         notice-star k = rw (← p, t, ← q, u, leaves-not identifier_byte e i r h, leaves-so starless e j starless-at k)
 
-        pub notice-none : length e ≤ j → Unnoticed ≡ notice_of e
+        pub notice-none : length e ≤ j → None ≡ notice_of e
         unfolding notice_of
         notice-none k = rw (← p, t, ← q, u, leaves-not identifier_byte e i r h, leaves-not starless e j starless-at k)
 
@@ -107,30 +108,6 @@ module _ (k : Notice) (e old : List ℕ) (to : ℕ) (new : List ℕ) (r : ℕ) w
   unfolding words
   star-words q v = rw q v
 
-pub no_words : (k : Notice) (e old : List ℕ) (to : ℕ) → k ≡ Unnoticed → to < 2 ^ 64 → Clipped old to (words k e) old to
-unfolding words
-no_words k e old to q h = rw q (nothing_put old to h)
-
-pub silent-mark : (k : Notice) → k ≡ Mark → false ≡ silent k
-unfolding silent
-silent-mark k q = rw q
-
-pub silent-hash : (k : Notice) → k ≡ Hash → false ≡ silent k
-unfolding silent
-silent-hash k q = rw q
-
-pub silent-unbare : (k : Notice) → k ≡ Unbare → false ≡ silent k
-unfolding silent
-silent-unbare k q = rw q
-
-pub silent-star : (k : Notice) → k ≡ Star → false ≡ silent k
-unfolding silent
-silent-star k q = rw q
-
-pub silent-none : (k : Notice) → k ≡ Unnoticed → true ≡ silent k
-unfolding silent
-silent-none k q = rw q
-
 -- ==== lines
 
 pub front-put : (n : ℕ) (old : List ℕ) (to : ℕ) → length old < 2 ^ 64 → (o : List ℕ) (a : ℕ) → Clipped old to (bytes "entry ") o a → (new : List ℕ) (r : ℕ)
@@ -144,16 +121,16 @@ unfolding compared_line
 compared-put n t old to l o₁ a u o₂ b v o₃ c w new r x =
     clipped-then (omega arith) u (clipped-then (omega (arith, clipped-long u)) v (clipped-then (omega (arith, clipped-long u, clipped-long v)) w x))
 
-module _ (label : List ℕ) (n : ℕ) (e : List ℕ) (k : Notice) (p : k ≡ notice_of e) (s : Bool) (q : s ≡ silent k) (old : List ℕ) (to : ℕ) where
-  pub notice-none-put : s ≡ true → to < 2 ^ 64 → Clipped old to (notice_line label n e) old to
-  unfolding notice_line
-  notice-none-put t h = rw (← p, ← q, t) (nothing_put old to h)
+module _ (label : List ℕ) (n : ℕ) (e : List ℕ) (o : Option Notice) (p : o ≡ notice_of e) (old : List ℕ) (to : ℕ) where
+  pub notice-none-put : o ≡ None → to < 2 ^ 64 → Clipped old to (notice_line label n e) old to
+  unfolding noticed_line
+  notice-none-put t h = rw (← p, t) (nothing_put old to h)
 
-  pub notice-put : s ≡ false → length old < 2 ^ 64 → (o₁ : List ℕ) (a : ℕ) → Clipped old to label o₁ a → (o₂ : List ℕ) (b : ℕ) → Clipped o₁ a (entry_front n) o₂ b
+  pub notice-put : (k : Notice) → o ≡ Some k → length old < 2 ^ 64 → (o₁ : List ℕ) (a : ℕ) → Clipped old to label o₁ a → (o₂ : List ℕ) (b : ℕ) → Clipped o₁ a (entry_front n) o₂ b
       → (o₃ : List ℕ) (c : ℕ) → Clipped o₂ b (words k e) o₃ c → (new : List ℕ) (r : ℕ) → Clipped o₃ c (bytes "\n") new r → Clipped old to (notice_line label n e) new r
-  unfolding notice_line
-  notice-put t l o₁ a u o₂ b v o₃ c w new r x =
-      rw (← p, ← q, t)
+  unfolding noticed_line
+  notice-put k t l o₁ a u o₂ b v o₃ c w new r x =
+      rw (← p, t)
       (clipped-then (omega arith) u (clipped-then (omega (arith, clipped-long u)) v (clipped-then (omega (arith, clipped-long u, clipped-long v)) w x)))
 
 module _ (k : Said) (n : ℕ) (t old : List ℕ) (to : ℕ) (new : List ℕ) (r : ℕ) where

@@ -1,23 +1,18 @@
 -- The lines of a list, stored one after another, and what is said of a whole list. The premises are literally what a need is handed.
-use Prim.Native.Nat.{ℕ, ◌+◌, ◌≤◌, ◌<◌, ◌^◌, min}
+use Prim.Native.Nat.{ℕ, ◌+◌, ◌≤◌, ◌<◌, ◌^◌}
 use native.Mathlib.Numerals.{add-one}
 use native.Mathlib.Omega.{arith}
 use mathlib.Core.Path.{◌≡◌, refl, sym, ap, ◌∙◌}
 use mathlib.Core.List.{List, [], ◌∷◌, ◌++◌}
-use lib.ListN.{length, drop}
+use lib.ListN.{length}
 use Rattle.base_sequences.specs.Stored.{Clipped}
-use Rattle.base_sequences.specs.Spans.{span}
 use Rattle.base_sequences.proofs.Clips.{clipped-then, Going, going_start, going_step, going_done}
-use Rattle.base_readers.specs.Readers.{run}
 use Rattle.base_readers.specs.Lines.{lines_of}
 use Rattle.ownlist_rules.specs.OwnList.{own_list}
-use Rattle.ownlist_laws.proofs.Ends.{lines_none}
 use Rattle.ownlist_check.specs.declared.Checked.{Checked}
 use Rattle.ownlist_check.specs.declared.Checked.TheVariants.{Good, Bad}
 use Rattle.ownlist_check.specs.Steps.{checked_of, number_of}
 use Rattle.ownlist_check.proofs.ListAnswers.{check-number}
-use Rattle.explain_columns.specs.Until.{except}
-use Rattle.explain.proofs.Lines.{line-next}
 use Rattle.command_list_rules.specs.declared.Said.{Said}
 use Rattle.command_list_rules.specs.declared.Said.TheVariants.{Compared, Noticed, Noted}
 use Rattle.command_list_rules.specs.Notices.{line_of, lines_from, note_label, empty_line, notices, notes, notes_of}
@@ -25,24 +20,24 @@ use Rattle.command_list_rules.specs.Notices.{line_of, lines_from, note_label, em
 -- ==== lines
 
 -- at each turn: what is left to be written, and a line has a byte at least
-pub record Lines (k : Said) (s old : List ℕ) (to : ℕ) (out : List ℕ) (n i count : ℕ) : Type 0 where
-  pub left : Going old to (lines_from k 0 (lines_of s)) out n (lines_from k count (lines_of (drop i s)))
-  pub few : count ≤ i
+pub record Lines (k : Said) (s old : List ℕ) (to : ℕ) (out : List ℕ) (n : ℕ) (rest : List ℕ) (count : ℕ) : Type 0 where
+  pub left : Going old to (lines_from k 0 (lines_of s)) out n (lines_from k count (lines_of rest))
+  pub few : count + length rest ≤ length s
 
-pub lines_start : (k : Said) (s old : List ℕ) (to : ℕ) → to < 2 ^ 64 → Lines k s old to old to 0 0
+pub lines_start : (k : Said) (s old : List ℕ) (to : ℕ) → to < 2 ^ 64 → Lines k s old to old to s 0
 lines_start k s old to h = record { left = going_start old to (lines_from k 0 (lines_of s)) (omega arith); few = omega arith }
 
-module _ (k : Said) (s old out : List ℕ) (to n i count : ℕ) (g : Lines k s old to out n i count) where
-  pub lines_more : length old < 2 ^ 64 → i < length s → (e : ℕ) → e ≡ i + run (except 10) (drop i s) → (o : List ℕ) (a : ℕ) → Clipped out n (line_of k (count + 1) (span s i e)) o a
-      → (j : ℕ) → j ≡ min (e + 1) (length s) → Lines k s old to o a j (count + 1)
+module _ (k : Said) (s old out : List ℕ) (to n : ℕ) (rest : List ℕ) (count : ℕ) (g : Lines k s old to out n rest count) where
+  pub lines_more : length old < 2 ^ 64 → (line behind : List ℕ) → lines_of rest ≡ line ∷ lines_of behind → length behind < length rest
+      → (o : List ℕ) (a : ℕ) → Clipped out n (line_of k (count + 1) line) o a → Lines k s old to o a behind (count + 1)
   unfolding lines_from
-  lines_more l h e q o a v j p =
-      let t : lines_from k count (lines_of (drop i s)) ≡ line_of k (count + 1) (span s i e) ++ lines_from k (count + 1) (lines_of (drop j s)) = rw (line-next s i h e q j p, add-one count) in
+  lines_more l line behind e h o a v =
+      let t : lines_from k count (lines_of rest) ≡ line_of k (count + 1) line ++ lines_from k (count + 1) (lines_of behind) = rw (e, add-one count) in
       record { left = going_step (omega arith) g.left t v; few = omega (arith, g.few) }
 
-  pub lines-done : length s ≤ i → Clipped old to (lines_from k 0 (lines_of s)) out n
+  pub lines-done : lines_of rest ≡ [] → Clipped old to (lines_from k 0 (lines_of s)) out n
   unfolding lines_from
-  lines-done h = going_done g.left (rw (lines_none s i h))
+  lines-done h = going_done g.left (rw h)
 
 -- ==== what is noticed of a list
 

@@ -8,8 +8,9 @@ ghost use Rattle.base_readers.specs.Readers.{run};
 ghost use Rattle.base_readers.specs.Texts.{bytes};
 ghost use Rattle.identifier_rules.specs.Identifier.{identifier_byte};
 ghost use Rattle.report_rules.specs.Report.{escape};
-ghost use Rattle.command_list_rules.specs.Notices.{marked, notice_of, unbare, words, silent, entry_front, notice_line, compared_line, line_of};
+ghost use Rattle.command_list_rules.specs.Notices.{marked, notice_of, unbare, words, entry_front, notice_line, compared_line, line_of};
 
+use base_runs::ByteTest;
 use command_list_rules::{Notice, Said};
 
 // Whether an entry begins with a byte order mark.
@@ -22,51 +23,42 @@ fn is_marked(e: &[u8]) -> bool
     a & (b & c)
 }
 
+// The bytes that an identifier without quotes can have.
+#[derive(Drop)]
+struct Bare;
+
+impl ByteTest for Bare {
+    ghost passes = { λ _. identifier_byte };
+
+    fn passes(&self, b: u8) -> bool {
+        identifier::in_identifier(b)
+    }
+}
+
 // The end of the bytes from a place on that an identifier without quotes can have.
 fn bare_end(e: &[u8], at: usize) -> usize
     ensures { result ≡ at + run identifier_byte (drop at e.now) }
 {
-    let mut i = at;
-    while i < e.len() {
-        if identifier::in_identifier(e[i]) {
-            i += 1;
-        } else {
-            return i;
-        }
-    }
-    i
+    Bare.run_end(e, at)
 }
 
-// What is noticed of an entry.
-fn notice(e: &[u8]) -> Notice
+// What is noticed of an entry, if anything.
+fn notice(e: &[u8]) -> Option<Notice>
     ensures { result ≡ notice_of e.now }
 {
     if is_marked(e) {
-        return Notice::Mark;
+        return Some(Notice::Mark);
     }
     if base_readers::is_at(e, 0, 0, b'#') {
-        return Notice::Hash;
+        return Some(Notice::Hash);
     }
     if bare_end(e, 0) < e.len() {
-        return Notice::Unbare;
+        return Some(Notice::Unbare);
     }
     if explain_columns::until(e, 0, b'*') < e.len() {
-        return Notice::Star;
+        return Some(Notice::Star);
     }
-    Notice::Unnoticed
-}
-
-// Whether nothing is said of it.
-fn is_silent(k: Notice) -> bool
-    ensures { result ≡ silent k }
-{
-    match k {
-        Notice::Mark => false,
-        Notice::Hash => false,
-        Notice::Unbare => false,
-        Notice::Star => false,
-        Notice::Unnoticed => true,
-    }
+    None
 }
 
 // The first byte that no identifier without quotes can have, if there is one.
@@ -98,7 +90,6 @@ fn put_words(k: Notice, e: &[u8], out: &mut [u8], to: usize) -> usize
             out,
             to,
         ),
-        Notice::Unnoticed => to,
     }
 }
 
@@ -114,10 +105,9 @@ fn put_front(n: usize, out: &mut [u8], to: usize) -> usize
 fn put_notice(label: &[u8], n: usize, e: &[u8], out: &mut [u8], to: usize) -> usize
     ensures { Clipped out.old to (notice_line label.now n e.now) out.new result }
 {
-    let k = notice(e);
-    if is_silent(k) {
+    let Some(k) = notice(e) else {
         return to;
-    }
+    };
     let a = text_write::put_part(label, out, to);
     let b = put_front(n, out, a);
     let c = put_words(k, e, out, b);

@@ -7,7 +7,7 @@
 // most the largest place, which no buffer reaches. Every byte of an entry is written as in a report, so none can end a line.
 #![tactic(auto)]
 
-ghost use Rattle.std.specs.Prelude.{◌≡◌, ◌++◌, ◌+◌, min, length};
+ghost use Rattle.std.specs.Prelude.{◌++◌};
 ghost use Rattle.base_sequences.specs.Stored.{Clipped};
 ghost use Rattle.base_readers.specs.Lines.{lines_of};
 ghost use Rattle.command_list_rules.specs.declared.Said.TheVariants.{Compared};
@@ -18,28 +18,17 @@ use ownlist_check::Checked;
 
 mod entry;
 
-// The place where the next line starts, behind one that ends at a place.
-fn next_line(s: &[u8], e: usize) -> usize
-    ensures { result ≡ min (e + 1) (length s.now) }
-{
-    if e < s.len() {
-        return e + 1;
-    }
-    s.len()
-}
-
 // The lines of a kind, one for each line of `s`.
 fn put_lines(k: Said, s: &[u8], out: &mut [u8], to: usize) -> usize
     ensures { Clipped out.old to (lines_from k 0 (lines_of s.now)) out.new result }
 {
     let mut n = to;
-    let mut i: usize = 0;
+    let mut rest = s;
     let mut count: usize = 0;
-    while i < s.len() {
+    while let Some((line, behind)) = explain::split_line(rest) {
         count += 1;
-        let e = explain_columns::until(s, i, b'\n');
-        n = entry::put_line(k, count, &s[i..e], out, n);
-        i = next_line(s, e);
+        n = entry::put_line(k, count, line, out, n);
+        rest = behind;
     }
     n
 }

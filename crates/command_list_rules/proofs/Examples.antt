@@ -1,4 +1,5 @@
 -- What is said of a list, at worked examples, by computing it: both sides of each clause.
+use Rattle.std.specs.Prelude.{None, Some}
 use Prim.Native.Nat.{ℕ}
 use mathlib.Core.Path.{◌≡◌, refl}
 use mathlib.Core.List.{[], ◌∷◌}
@@ -9,11 +10,11 @@ use Rattle.text_decimals_rules.specs.Decimals.{digits, decimal}
 use Rattle.identifier_rules.specs.Identifier.{identifier_byte}
 use Rattle.ownlist_rules.proofs.Unfolding.{opened}
 use Rattle.report_rules.specs.Report.{plain, escape}
-use Rattle.command_list_rules.specs.declared.Notice.TheVariants.{Mark, Hash, Unbare, Star, Unnoticed}
-use Rattle.command_list_rules.specs.Notices.{marked, starless, notice_of, words, silent, notice_line, compared_line, line_of, lines_from, notices, notes, notes_of, check_text}
+use Rattle.command_list_rules.specs.declared.Notice.TheVariants.{Mark, Hash, Unbare, Star}
+use Rattle.command_list_rules.specs.Notices.{marked, starless, notice_of, words, noticed_line, compared_line, line_of, lines_from, notices, notes, notes_of, check_text}
 
 said : ℕ
-unfolding opened plain escape digits decimal identifier_byte lines_of marked starless notice_of words silent notice_line compared_line line_of lines_from notices notes notes_of check_text
+unfolding opened plain escape digits decimal identifier_byte lines_of marked starless notice_of words noticed_line compared_line line_of lines_from notices notes notes_of check_text
 said = 0
 
 -- ==== an entry
@@ -22,25 +23,25 @@ said = 0
 -- can have, "%" and bytes from 128 up among them; a star anywhere; the first of these that holds
 entries :
     Says notice_of
-    (case (0xEF ∷ 0xBB ∷ 0xBF ∷ bytes "mx.example.com") Mark
-    ∷ case (0xEF ∷ 0xBB ∷ 0xBE ∷ bytes "mx.example.com") Unnoticed
-    ∷ case (0xEF ∷ 0xBC ∷ 0xBF ∷ bytes "mx.example.com") Unnoticed
-    ∷ case (0xEE ∷ 0xBB ∷ 0xBF ∷ bytes "mx.example.com") Unnoticed
-    ∷ case (97 ∷ 0xEF ∷ 0xBB ∷ 0xBF ∷ []) Unnoticed
-    ∷ case (0xEF ∷ 0xBB ∷ 0xBF ∷ bytes "#*;") Mark
-    ∷ case (bytes "#ours") Hash
-    ∷ case (bytes "#ours;*") Hash
-    ∷ case (bytes "ours#") Unnoticed
-    ∷ case (bytes "mx.example.com;") Unbare
-    ∷ case (bytes ";mx.example.com") Unbare
-    ∷ case (bytes "\"mx.example.com\"") Unbare
-    ∷ case (bytes "*.example.com,") Unbare
-    ∷ case (bytes "*.example.com") Star
-    ∷ case (bytes "mx.*") Star
-    ∷ case (bytes "mx.example.com") Unnoticed
-    ∷ case (98 ∷ 0xC3 ∷ 0xBC ∷ bytes "cher.example") Unnoticed
-    ∷ case (bytes "50%_of-it!'") Unnoticed
-    ∷ case [] Unnoticed
+    (case (0xEF ∷ 0xBB ∷ 0xBF ∷ bytes "mx.example.com") (Some Mark)
+    ∷ case (0xEF ∷ 0xBB ∷ 0xBE ∷ bytes "mx.example.com") None
+    ∷ case (0xEF ∷ 0xBC ∷ 0xBF ∷ bytes "mx.example.com") None
+    ∷ case (0xEE ∷ 0xBB ∷ 0xBF ∷ bytes "mx.example.com") None
+    ∷ case (97 ∷ 0xEF ∷ 0xBB ∷ 0xBF ∷ []) None
+    ∷ case (0xEF ∷ 0xBB ∷ 0xBF ∷ bytes "#*;") (Some Mark)
+    ∷ case (bytes "#ours") (Some Hash)
+    ∷ case (bytes "#ours;*") (Some Hash)
+    ∷ case (bytes "ours#") None
+    ∷ case (bytes "mx.example.com;") (Some Unbare)
+    ∷ case (bytes ";mx.example.com") (Some Unbare)
+    ∷ case (bytes "\"mx.example.com\"") (Some Unbare)
+    ∷ case (bytes "*.example.com,") (Some Unbare)
+    ∷ case (bytes "*.example.com") (Some Star)
+    ∷ case (bytes "mx.*") (Some Star)
+    ∷ case (bytes "mx.example.com") None
+    ∷ case (98 ∷ 0xC3 ∷ 0xBC ∷ bytes "cher.example") None
+    ∷ case (bytes "50%_of-it!'") None
+    ∷ case [] None
     ∷ [])
 unfolding said
 entries = refl

@@ -1,9 +1,10 @@
 -- How long the texts are: what is said of any list on standard error has at most 4,480 bytes, and what `check` says of a good one at most 201,024. A list
 -- has at most 64 entries, and an entry as it is compared at most 1,020 bytes, each written with three at most.
+use Rattle.std.specs.Prelude.{Option, None, Some}
 use Prim.Native.Nat.{ℕ, zero, suc, ◌+◌, ◌*◌, ◌≤◌, ◌<◌}
 use native.Mathlib.Omega.{arith}
 use mathlib.Core.Path.{◌≡◌, refl}
-use mathlib.Core.Bool.{Bool, true, false, cond}
+use mathlib.Core.Bool.{Bool, true, false}
 use mathlib.Core.List.{List, [], ◌∷◌, ◌++◌, map}
 use lib.Dec.{lit≤}
 use lib.ListN.{length, length-append, take, drop, length-map}
@@ -18,9 +19,9 @@ use Rattle.ownlist_rules.specs.OwnList.{own_list}
 use Rattle.ownlist_laws.proofs.OwnListLaws.{list-few, good-few, list_length}
 use Rattle.report_rules.specs.Report.{plain, escape}
 use Rattle.command_list_rules.specs.declared.Notice.{Notice}
-use Rattle.command_list_rules.specs.declared.Notice.TheVariants.{Mark, Hash, Unbare, Star, Unnoticed}
+use Rattle.command_list_rules.specs.declared.Notice.TheVariants.{Mark, Hash, Unbare, Star}
 use Rattle.command_list_rules.specs.declared.Said.TheVariants.{Compared, Noticed, Noted}
-use Rattle.command_list_rules.specs.Notices.{notice_of, unbare, words, silent, entry_front, notice_line, compared_line, note_label, line_of, lines_from, notices, notes, notes_of, check_text}
+use Rattle.command_list_rules.specs.Notices.{notice_of, unbare, words, entry_front, noticed_line, notice_line, compared_line, note_label, line_of, lines_from, notices, notes, notes_of, check_text}
 
 -- ==== parts of a line
 
@@ -44,7 +45,6 @@ words-short Hash e = lit≤ tt
 words-short Unbare e =
     omega (arith, length-append (bytes ": no bare identifier can have ") (escape (unbare e)), escape-long (unbare e), take-one (drop (run identifier_byte e) e))
 words-short Star e = lit≤ tt
-words-short Unnoticed e = lit≤ tt
 
 front-short : (n : ℕ) → n < 100 → length (entry_front n) ≤ 8
 front-short n h =
@@ -52,19 +52,19 @@ front-short n h =
     omega (arith, length-append (bytes "entry ") (decimal n))
 
 notice-short : (label : List ℕ) (n : ℕ) (e : List ℕ) → n < 100 → length (notice_line label n e) ≤ length label + 53
-unfolding notice_line
-notice-short label n e h = go (silent (notice_of e))
+unfolding noticed_line
+notice-short label n e h = go (notice_of e)
   where
-    go : (b : Bool) → length (cond b [] (label ++ (entry_front n ++ (words (notice_of e) e ++ bytes "\n")))) ≤ length label + 53
-    go true = omega arith
-    go false =
+    go : (k : Option Notice) → length (noticed_line label n e k) ≤ length label + 53
+    go None = omega arith
+    go (Some k) =
         omega (
           arith,
-          length-append label (entry_front n ++ (words (notice_of e) e ++ bytes "\n")),
-          length-append (entry_front n) (words (notice_of e) e ++ bytes "\n"),
-          length-append (words (notice_of e) e) (bytes "\n"),
+          length-append label (entry_front n ++ (words k e ++ bytes "\n")),
+          length-append (entry_front n) (words k e ++ bytes "\n"),
+          length-append (words k e) (bytes "\n"),
           front-short n h,
-          words-short (notice_of e) e,
+          words-short k e,
         )
 
 compared-short : (n : ℕ) (t : List ℕ) → n < 100 → length (compared_line n t) ≤ 25 + 3 * length t

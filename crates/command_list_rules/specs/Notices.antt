@@ -1,7 +1,7 @@
 -- What the command says of our own list. By 01, "Block and list", a list may be empty, and an entry may have any visible byte: such lists are good, and no answer
 -- hangs on what is said here. It is for the person who writes the list: an entry of which something is noticed most likely equals no identifier.
 use Prim.Native.Char.{code}
-use Rattle.std.specs.Prelude.{ℕ, zero, suc, Bool, true, false, cond, not, ◌&&◌, List, [], ◌∷◌, ◌++◌, map, eqb, ltb, length, get_or, take, drop}
+use Rattle.std.specs.Prelude.{ℕ, zero, suc, Bool, cond, not, ◌&&◌, List, [], ◌∷◌, ◌++◌, map, eqb, ltb, length, get_or, take, drop, Option, None, Some}
 use Rattle.base_readers.specs.Texts.{bytes}
 use Rattle.base_readers.specs.Readers.{run}
 use Rattle.base_readers.specs.Lines.{lines_of}
@@ -11,7 +11,7 @@ use Rattle.identifier_rules.specs.Identifier.{identifier_byte}
 use Rattle.ownlist_rules.specs.OwnList.{own_list}
 use Rattle.report_rules.specs.Report.{escape}
 use Rattle.command_list_rules.specs.declared.Notice.{Notice}
-use Rattle.command_list_rules.specs.declared.Notice.TheVariants.{Mark, Hash, Unbare, Star, Unnoticed}
+use Rattle.command_list_rules.specs.declared.Notice.TheVariants.{Mark, Hash, Unbare, Star}
 use Rattle.command_list_rules.specs.declared.Said.{Said}
 use Rattle.command_list_rules.specs.declared.Said.TheVariants.{Compared, Noticed, Noted}
 
@@ -29,13 +29,13 @@ starless x = not (eqb x (code "*"))
 abbrev pub leaves : (ℕ → Bool) → List ℕ → Bool
 leaves c e = ltb (run c e) (length e)
 
--- what is noticed: the first of these that holds
-unfoldable pub notice_of : List ℕ → Notice
+-- what is noticed: the first of these that holds, or nothing
+unfoldable pub notice_of : List ℕ → Option Notice
 notice_of e =
-    cond (marked e) Mark
-    (cond (eqb (get_or e 0 0) (code "#")) Hash
-    (cond (leaves identifier_byte e) Unbare
-    (cond (leaves starless e) Star Unnoticed)))
+    cond (marked e) (Some Mark)
+    (cond (eqb (get_or e 0 0) (code "#")) (Some Hash)
+    (cond (leaves identifier_byte e) (Some Unbare)
+    (cond (leaves starless e) (Some Star) None)))
 
 -- the first byte that no identifier without quotes can have
 abbrev pub unbare : List ℕ → List ℕ
@@ -46,14 +46,6 @@ words Mark e = bytes " begins with a byte order mark"
 words Hash e = bytes " begins with #, which begins no comment here"
 words Unbare e = bytes ": no bare identifier can have " ++ escape (unbare e)
 words Star e = bytes ": * stands for itself, not for other names"
-words Unnoticed e = []
-
-unfoldable pub silent : Notice → Bool
-silent Mark = false
-silent Hash = false
-silent Unbare = false
-silent Star = false
-silent Unnoticed = true
 
 -- ==== lines
 
@@ -62,8 +54,12 @@ abbrev pub entry_front : ℕ → List ℕ
 entry_front n = bytes "entry " ++ decimal n
 
 -- what is noticed of it, behind a label; nothing where nothing is
-unfoldable pub notice_line : List ℕ → ℕ → List ℕ → List ℕ
-notice_line label n e = cond (silent (notice_of e)) [] (label ++ (entry_front n ++ (words (notice_of e) e ++ bytes "\n")))
+unfoldable pub noticed_line : List ℕ → ℕ → List ℕ → Option Notice → List ℕ
+noticed_line label n e None = []
+noticed_line label n e (Some k) = label ++ (entry_front n ++ (words k e ++ bytes "\n"))
+
+abbrev pub notice_line : List ℕ → ℕ → List ℕ → List ℕ
+notice_line label n e = noticed_line label n e (notice_of e)
 
 -- how it is compared: its text with U-labels for A-labels, coded as in a report
 unfoldable pub compared_line : ℕ → List ℕ → List ℕ

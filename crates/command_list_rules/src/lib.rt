@@ -2,7 +2,7 @@
 // are only the types of what is noticed and of what is said.
 #![tactic(auto)]
 
-// What is noticed of an entry of a good list.
+// What is noticed of an entry of a good list, where something is.
 #[derive(Clone, Copy)]
 pub enum Notice {
     // It begins with a byte order mark.
@@ -13,8 +13,6 @@ pub enum Notice {
     Unbare,
     // It has "*".
     Star,
-    // Nothing.
-    Unnoticed,
 }
 
 // What is said of the entries of a list.

@@ -38,7 +38,8 @@ fn put_line(mark: u8, n: usize, field: &[u8], out: &mut [u8], to: usize) -> usiz
     to
 }
 
-// The lines of the fields of a block by their marks, up to the first refusal.
+// The lines of the fields of a block by their marks, up to the first refusal. The walk goes on from what the splitter answers, so there is no range to go
+// over.
 fn put_lines(s: &[u8], marks: &[u8], out: &mut [u8]) -> usize
     ensures { Clipped out.old 0 (lines_by marks.now 0 (fields s.now).items) out.new result }
 {

@@ -2,46 +2,48 @@
 ghost use Rattle.std.specs.Prelude.{◌≡◌, ◌+◌, take, drop};
 ghost use Rattle.base_sequences.specs.Stored.{Clipped};
 ghost use Rattle.text_write.specs.Phrases.{phrase};
-ghost use Rattle.command_rules.specs.Messages.{feeds, until_feed, fault_at};
+ghost use Rattle.command_rules.specs.Messages.{feeds, feedless, until_feed, fault_at};
 ghost use Rattle.command_meanings.specs.Internal.{faults};
 
+use base_runs::ByteTest;
 use ownlist_check::Entries;
+
+// Any byte but LF.
+#[derive(Drop)]
+struct Feedless;
+
+impl ByteTest for Feedless {
+    ghost passes = { λ _. feedless };
+
+    #[tactic(auto, unfolding(command_rules::specs::Messages::feedless))]
+    fn passes(&self, b: u8) -> bool {
+        b != b'\n'
+    }
+}
+
+// How many LF there are.
+fn feeds(s: &[u8]) -> usize
+    ensures { result ≡ feeds s.now }
+{
+    s.iter().filter(|b| **b == b'\n').count()
+}
 
 // How many LF stand in front of a place: so many entries of the list were passed.
 fn feeds_before(list: &[u8], place: usize) -> usize
     ensures { result ≡ feeds (take place list.now) }
 {
-    let mut count: usize = 0;
-    let mut i: usize = 0;
-    while i < list.len() {
-        if i >= place {
-            return count;
-        }
-        if list[i] == b'\n' {
-            count += 1;
-            i += 1;
-        } else {
-            i += 1;
-        }
-    }
-    count
+    feeds(&list[..place.min(list.len())])
 }
 
 // The next LF, or the end.
 fn feed_from(list: &[u8], at: usize) -> usize
     ensures { result ≡ at + until_feed (drop at list.now) }
 {
-    let mut i = at;
-    while i < list.len() {
-        if list[i] == b'\n' {
-            return i;
-        }
-        i += 1;
-    }
-    i
+    Feedless.run_end(list, at)
 }
 
 // The place of what is wrong with the entry that starts at a place, among the phrases of `put_fault`.
+#[tactic(auto, unfolding(text_write::specs::Phrases::phrase, text_write::specs::Phrases::start, base_readers::specs::Readers::run, command_rules::specs::Messages::fault))]
 fn fault_place(list: &[u8], place: usize) -> usize
     ensures { phrase result faults ≡ fault_at list.now place }
 {

@@ -1,22 +1,15 @@
 -- The parts of a line, stored one after another, are the line stored. The premises are literally what a need is handed.
 use Prim.Native.Nat.{ℕ, ◌<◌, ◌^◌}
 use native.Mathlib.Omega.{arith}
-use mathlib.Core.Path.{◌≡◌, refl, ap, ◌∙◌, subst}
-use mathlib.Core.List.{List, [], ◌∷◌}
-use denote.Enum.Declared.{tag_of}
-use types.Run.{OneOf, miss}
+use mathlib.Core.Path.{◌≡◌}
+use mathlib.Core.List.{List}
 use lib.ListN.{length}
 use Rattle.base_sequences.specs.Stored.{Clipped}
 use Rattle.base_sequences.proofs.Clips.{clipped-then, clipped-long}
 use Rattle.base_readers.specs.Texts.{bytes}
-use Rattle.base_readers.specs.Readers.{run}
-use Rattle.text_write.specs.Phrases.{start, phrase}
 use Rattle.text_decimals_rules.specs.Decimals.{decimal}
 use Rattle.command_rules.specs.declared.Ending.{Ending}
-use Rattle.command_rules.specs.declared.Ending.TheVariants.{Done, Usage, ListClosed, ListUnread, InputUnread, InputTooLong, OutputTooLong, Unwritten, VerdictsRefused, Refused, LinesRefused}
-use Rattle.command_rules.specs.contracts.Ending.{the_type}
 use Rattle.command_rules.specs.Messages.{meaning, lines_meaning, opening, closing, refusal_line, lines_refusal, verdicts_line, ending_line}
-use Rattle.command_message.specs.Internal.{tolds, told_by}
 
 -- ==== the line
 
@@ -46,28 +39,3 @@ module _ (old : List ℕ) (l : length old < 2 ^ 64) (to : ℕ) (o : List ℕ) (i
 -- that of a refusal, by the ending that it is
 pub ending-put : (e f : Ending) → e ≡ f → (list old : List ℕ) (to : ℕ) (new : List ℕ) (r : ℕ) → Clipped old to (ending_line f list) new r → Clipped old to (ending_line e list) new r
 ending-put e f q list old to new r w = rw q w
-
--- the endings that are told by one phrase, by their places among all
-abbrev tags : List ℕ
-tags = 0 ∷ 1 ∷ 2 ∷ 3 ∷ 4 ∷ 5 ∷ 6 ∷ 7 ∷ []
-
-abbrev Told : Ending → Type 0
-Told e = OneOf tags (tag_of the_type e)
-
-told_line : (e : Ending) (list : List ℕ) → Told e → phrase (told_by e) tolds ≡ ending_line e list
-unfolding ending_line told_by phrase start run
-told_line Done list k = refl
-told_line Usage list k = refl
-told_line ListClosed list k = refl
-told_line ListUnread list k = refl
-told_line InputUnread list k = refl
-told_line InputTooLong list k = refl
-told_line OutputTooLong list k = refl
-told_line Unwritten list k = refl
-told_line (VerdictsRefused sets) list k = absurd (miss tags 8 tt k)
-told_line (Refused number place) list k = absurd (miss tags 9 tt k)
-told_line (LinesRefused number place) list k = absurd (miss tags 10 tt k)
-
-pub told-put : (e : Ending) → Told e → (n : ℕ) → n ≡ told_by e → (list old : List ℕ) (to : ℕ) (new : List ℕ) (r : ℕ) → Clipped old to (phrase n tolds) new r
-    → Clipped old to (ending_line e list) new r
-told-put e k n h list old to new r w = subst (λ (t : List ℕ). Clipped old to t new r) (ap (λ (m : ℕ). phrase m tolds) h ∙ told_line e list k) w

@@ -8,11 +8,10 @@
 // for from there on, changes no other byte, and returns the place after the whole line, at most the largest place, which no buffer reaches.
 #![tactic(auto)]
 
-ghost use Rattle.std.specs.Prelude.{◌≡◌};
 ghost use Rattle.base_sequences.specs.Stored.{Clipped};
 ghost use Rattle.text_write.specs.Phrases.{phrase};
 ghost use Rattle.command_rules.specs.Messages.{opening, closing, refusal_line, lines_refusal, verdicts_line, ending_line};
-ghost use Rattle.command_message.specs.Internal.{tolds, told_by};
+ghost use Rattle.command_message.specs.Internal.{tolds};
 
 use command_rules::Ending;
 
@@ -76,25 +75,6 @@ fn put_told(n: usize, out: &mut [u8], to: usize) -> usize
     )
 }
 
-// Which phrase tells an ending, counted from 0; the refusals, which have a number of their own, are told by none.
-fn told(ending: Ending) -> usize
-    ensures { result ≡ told_by ending }
-{
-    match ending {
-        Ending::Done => 0,
-        Ending::Usage => 1,
-        Ending::ListClosed => 2,
-        Ending::ListUnread => 3,
-        Ending::InputUnread => 4,
-        Ending::InputTooLong => 5,
-        Ending::OutputTooLong => 6,
-        Ending::Unwritten => 7,
-        Ending::VerdictsRefused { sets } => 8,
-        Ending::Refused { number, place } => 8,
-        Ending::LinesRefused { number, place } => 8,
-    }
-}
-
 // The line of an ending; `list` is our own list, which a refusal by 5 speaks of.
 pub fn put_ending(ending: Ending, list: &[u8], out: &mut [u8], to: usize) -> usize
     ensures { Clipped out.old to (ending_line ending list.now) out.new result }
@@ -103,6 +83,13 @@ pub fn put_ending(ending: Ending, list: &[u8], out: &mut [u8], to: usize) -> usi
         Ending::Refused { number, place } => put_refusal(number, place, list, out, to),
         Ending::LinesRefused { number, place } => put_lines_refusal(number, place, out, to),
         Ending::VerdictsRefused { sets } => put_verdicts(sets, out, to),
-        _ => put_told(told(ending), out, to),
+        Ending::Done => put_told(0, out, to),
+        Ending::Usage => put_told(1, out, to),
+        Ending::ListClosed => put_told(2, out, to),
+        Ending::ListUnread => put_told(3, out, to),
+        Ending::InputUnread => put_told(4, out, to),
+        Ending::InputTooLong => put_told(5, out, to),
+        Ending::OutputTooLong => put_told(6, out, to),
+        Ending::Unwritten => put_told(7, out, to),
     }
 }

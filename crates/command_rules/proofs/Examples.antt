@@ -1,12 +1,13 @@
 -- What is asked for, and the lines, at worked examples, by computing them.
 use Prim.Native.Nat.{ℕ, zero, suc}
 use mathlib.Core.Path.{◌≡◌, refl}
+use Rattle.std.specs.Prelude.{None, Some}
 use mathlib.Core.List.{List, [], ◌∷◌, ◌++◌, map}
 use Rattle.base_readers.specs.Texts.{bytes, same}
 use Rattle.base_readers.specs.Readers.{run}
 use Rattle.base_readers.proofs.Cases.{case, Says, copies}
 use Rattle.text_decimals_rules.specs.Decimals.{digits, decimal}
-use Rattle.command_rules.specs.declared.Asked.TheVariants.{Strip, Log, Report, Explain, Judge, Check, Write, Nothing}
+use Rattle.command_rules.specs.declared.Asked.TheVariants.{Strip, Log, Report, Explain, Judge, Check, Write}
 use Rattle.command_rules.specs.declared.Ending.TheVariants.{Done, Usage, ListClosed, ListUnread, InputUnread, InputTooLong, OutputTooLong, Unwritten, VerdictsRefused, Refused, LinesRefused}
 use Rattle.command_rules.specs.Words.{asked}
 use Rattle.command_rules.specs.Messages.{feeds, feedless, fault, fault_at, meaning, lines_meaning, ending_line}
@@ -16,17 +17,17 @@ use Rattle.command_rules.specs.Messages.{feeds, feedless, fault, fault_at, meani
 -- with a list or verdicts: in lower case alone, and the whole word
 with-list :
     Says (asked 3)
-    (case (bytes "strip") Strip
-    ∷ case (bytes "log") Log
-    ∷ case (bytes "logs") Nothing
-    ∷ case (bytes "report") Report
-    ∷ case (bytes "explain") Explain
-    ∷ case (bytes "judge") Judge
-    ∷ case (bytes "check") Check
-    ∷ case (bytes "write") Nothing
-    ∷ case (bytes "Strip") Nothing
-    ∷ case (bytes "reports") Nothing
-    ∷ case [] Nothing
+    (case (bytes "strip") (Some Strip)
+    ∷ case (bytes "log") (Some Log)
+    ∷ case (bytes "logs") None
+    ∷ case (bytes "report") (Some Report)
+    ∷ case (bytes "explain") (Some Explain)
+    ∷ case (bytes "judge") (Some Judge)
+    ∷ case (bytes "check") (Some Check)
+    ∷ case (bytes "write") None
+    ∷ case (bytes "Strip") None
+    ∷ case (bytes "reports") None
+    ∷ case [] None
     ∷ [])
 unfolding asked same
 with-list = refl
@@ -34,14 +35,14 @@ with-list = refl
 -- without one
 without-list :
     Says (asked 2)
-    (case (bytes "strip") Nothing ∷ case (bytes "log") Nothing ∷ case (bytes "check") Nothing ∷ case (bytes "write") Write ∷ case (bytes "Write") Nothing ∷ case (bytes "writes") Nothing ∷ case [] Nothing ∷ [])
+    (case (bytes "strip") None ∷ case (bytes "log") None ∷ case (bytes "check") None ∷ case (bytes "write") (Some Write) ∷ case (bytes "Write") None ∷ case (bytes "writes") None ∷ case [] None ∷ [])
 unfolding asked same
 without-list = refl
 
 -- from no word at all to one too many
 counts :
     map (λ (n : ℕ). asked n (bytes "strip") ∷ asked n (bytes "write") ∷ []) (0 ∷ 1 ∷ 2 ∷ 3 ∷ 4 ∷ [])
-    ≡ (Nothing ∷ Nothing ∷ []) ∷ (Nothing ∷ Nothing ∷ []) ∷ (Nothing ∷ Write ∷ []) ∷ (Strip ∷ Nothing ∷ []) ∷ (Nothing ∷ Nothing ∷ []) ∷ []
+    ≡ (None ∷ None ∷ []) ∷ (None ∷ None ∷ []) ∷ (None ∷ Some Write ∷ []) ∷ (Some Strip ∷ None ∷ []) ∷ (None ∷ None ∷ []) ∷ []
 unfolding asked same
 counts = refl
 

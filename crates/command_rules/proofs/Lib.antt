@@ -1,4 +1,3 @@
 pub mod EndingsFit
 pub mod Lines
-pub mod Feeds
 pub mod Examples

@@ -1,66 +1,12 @@
--- The definitions by their cases: what is asked for, what is wrong with an entry, what a number means.
+-- The definitions by their cases: what is wrong with an entry, what a number means.
 use Prim.Native.Nat.{ℕ, ◌≤◌, ◌<◌}
 use mathlib.Core.Path.{◌≡◌}
-use mathlib.Core.Bool.{Bool, true, false}
 use mathlib.Core.List.{List, ◌++◌}
 use lib.ListN.{length}
 use borrow.Author.Tests.{le-leb, lt-leb, eq-eqb, ne_eqb}
-use Rattle.base_readers.specs.Texts.{bytes, same}
+use Rattle.base_readers.specs.Texts.{bytes}
 use Rattle.ownlist_rules.specs.OwnList.{entry_limit, longest}
-use Rattle.command_rules.specs.declared.Asked.TheVariants.{Strip, Log, Report, Explain, Judge, Check, Write, Nothing}
-use Rattle.command_rules.specs.Words.{asked}
 use Rattle.command_rules.specs.Messages.{until_feed, fault, fault_at, meaning, lines_meaning}
-
--- ==== words
-
-module _ (count : ℕ) (word : List ℕ) where
-  module _ (h : count ≡ 3) (p : Bool) (s : p ≡ same word (bytes "strip")) where
-    pub asked-strip : p ≡ true → Strip ≡ asked count word
-    unfolding asked
-    asked-strip t = rw (eq-eqb count 3 h, ← s, t)
-
-    module _ (t : p ≡ false) (q : Bool) (r : q ≡ same word (bytes "report")) where
-      pub asked-report : q ≡ true → Report ≡ asked count word
-      unfolding asked
-      asked-report u = rw (eq-eqb count 3 h, ← s, t, ← r, u)
-
-      module _ (u : q ≡ false) (x : Bool) (v : x ≡ same word (bytes "explain")) where
-        pub asked-explain : x ≡ true → Explain ≡ asked count word
-        unfolding asked
-        asked-explain w = rw (eq-eqb count 3 h, ← s, t, ← r, u, ← v, w)
-
-        module _ (w : x ≡ false) (y : Bool) (z : y ≡ same word (bytes "judge")) where
-          pub asked-judge : y ≡ true → Judge ≡ asked count word
-          unfolding asked
-          asked-judge j = rw (eq-eqb count 3 h, ← s, t, ← r, u, ← v, w, ← z, j)
-
-          module _ (j : y ≡ false) (m : Bool) (o : m ≡ same word (bytes "check")) where
-            pub asked-check : m ≡ true → Check ≡ asked count word
-            unfolding asked
-            asked-check k = rw (eq-eqb count 3 h, ← s, t, ← r, u, ← v, w, ← z, j, ← o, k)
-
-            module _ (k : m ≡ false) (a : Bool) (b : a ≡ same word (bytes "log")) where
-              pub asked-log : a ≡ true → Log ≡ asked count word
-              unfolding asked
-              asked-log l = rw (eq-eqb count 3 h, ← s, t, ← r, u, ← v, w, ← z, j, ← o, k, ← b, l)
-
-              pub asked-neither : a ≡ false → Nothing ≡ asked count word
-              unfolding asked
-              asked-neither l = rw (eq-eqb count 3 h, ← s, t, ← r, u, ← v, w, ← z, j, ← o, k, ← b, l)
-
-  module _ (h : count ≡ 3 → ⊥) where
-    pub asked-other : (count ≡ 2 → ⊥) → Nothing ≡ asked count word
-    unfolding asked
-    asked-other i = rw (ne_eqb count 3 h, ne_eqb count 2 i)
-
-    module _ (i : count ≡ 2) (p : Bool) (s : p ≡ same word (bytes "write")) where
-      pub asked-write : p ≡ true → Write ≡ asked count word
-      unfolding asked
-      asked-write t = rw (ne_eqb count 3 h, eq-eqb count 2 i, ← s, t)
-
-      pub asked-unlisted : p ≡ false → Nothing ≡ asked count word
-      unfolding asked
-      asked-unlisted t = rw (ne_eqb count 3 h, eq-eqb count 2 i, ← s, t)
 
 -- ==== what is wrong with an entry
 

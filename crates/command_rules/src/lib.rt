@@ -2,8 +2,8 @@
 // only the types of the two.
 #![tactic(auto)]
 
-// What the words of a call ask for.
-#[derive(Drop)]
+// What the words of a call ask for, where that is something that the command does.
+#[derive(Clone, Copy)]
 pub enum Asked {
     Strip,
     // To strip, once the fields that go have been logged.
@@ -13,8 +13,6 @@ pub enum Asked {
     Judge,
     Check,
     Write,
-    // None of the things that the command does.
-    Nothing,
 }
 
 // How the command ended.

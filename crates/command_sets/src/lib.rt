@@ -16,13 +16,11 @@ pub fn sets(block: &[u8]) -> usize
     ensures { result ≡ sets_of block.now }
 {
     let zeros = [0u8; SETS];
-    let mut n: usize = 1;
-    while n <= SETS {
+    for n in 1..=SETS {
         let j = arc::judge(block, &zeros[..n]);
         if j.number != Number::BAD_VERDICTS {
             return j.instances;
         }
-        n += 1;
     }
     0
 }

@@ -7,34 +7,35 @@ ghost use Rattle.command_rules.specs.Words.{asked};
 use command_rules::Asked;
 
 // What is asked for by so many words, the command's own name among them, of which this is the first behind that.
-pub fn asked(count: usize, word: &[u8]) -> Asked
+#[tactic(auto, unfolding(command_rules::specs::Words::asked))]
+pub fn asked(count: usize, word: &[u8]) -> Option<Asked>
     ensures { result ≡ asked count word.now }
 {
     if count == 3 {
         if text_compare::exact::is_same(word, b"strip") {
-            return Asked::Strip;
+            return Some(Asked::Strip);
         }
         if text_compare::exact::is_same(word, b"report") {
-            return Asked::Report;
+            return Some(Asked::Report);
         }
         if text_compare::exact::is_same(word, b"explain") {
-            return Asked::Explain;
+            return Some(Asked::Explain);
         }
         if text_compare::exact::is_same(word, b"judge") {
-            return Asked::Judge;
+            return Some(Asked::Judge);
         }
         if text_compare::exact::is_same(word, b"check") {
-            return Asked::Check;
+            return Some(Asked::Check);
         }
         if text_compare::exact::is_same(word, b"log") {
-            return Asked::Log;
+            return Some(Asked::Log);
         }
-        return Asked::Nothing;
+        return None;
     }
     if count == 2 {
         if text_compare::exact::is_same(word, b"write") {
-            return Asked::Write;
+            return Some(Asked::Write);
         }
     }
-    Asked::Nothing
+    None
 }

@@ -12,20 +12,28 @@ ghost use Rattle.base_readers.specs.Readers.{run};
 ghost use Rattle.explain_rules.specs.Explained.{column, behind, kind_of, kind_of_line, text};
 ghost use Rattle.explain_columns.specs.Until.{except};
 
+use base_runs::ByteTest;
 use explain_rules::Line;
+
+// Any byte but one.
+#[derive(Drop)]
+struct Except {
+    byte: u8,
+}
+
+impl ByteTest for Except {
+    ghost passes = { λ t. except t.byte };
+
+    fn passes(&self, b: u8) -> bool {
+        b != self.byte
+    }
+}
 
 // The next place from this one on where a byte stands, or the end.
 pub fn until(s: &[u8], at: usize, b: u8) -> usize
     ensures { result ≡ at + run (except b) (drop at s.now) }
 {
-    let mut i = at;
-    while i < s.len() {
-        if s[i] == b {
-            return i;
-        }
-        i += 1;
-    }
-    i
+    Except { byte: b }.run_end(s, at)
 }
 
 // The first column of a line.
@@ -47,6 +55,7 @@ pub fn behind(l: &[u8]) -> &[u8]
 }
 
 // What a line is whose first column is one byte.
+#[tactic(auto, unfolding(explain_rules::specs::Explained::kind_of, base_readers::specs::Texts::same))]
 fn kind_of_letter(b: u8) -> Line
     ensures { result ≡ kind_of (b ∷ []) }
 {
@@ -60,6 +69,7 @@ fn kind_of_letter(b: u8) -> Line
 }
 
 // What a line is, by its first column.
+#[tactic(auto, unfolding(explain_rules::specs::Explained::kind_of))]
 fn kind_of(w: &[u8]) -> Line
     ensures { result ≡ kind_of w.now }
 {

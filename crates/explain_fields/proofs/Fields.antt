@@ -4,45 +4,16 @@ use Prim.Native.Nat.{ℕ, ◌<◌, ◌^◌}
 use native.Mathlib.Omega.{arith}
 use mathlib.Core.Path.{◌≡◌, refl, sym, ◌∙◌}
 use mathlib.Core.Bool.{Bool, true, false}
-use mathlib.Core.List.{List, [], ◌∷◌, ◌++◌, append_assoc}
-use lib.ListN.{length, get_or}
-use borrow.Author.Tests.{eq-eqb, ne_eqb}
+use mathlib.Core.List.{List, ◌++◌, append_assoc}
+use lib.ListN.{length}
 use Rattle.base_sequences.specs.Stored.{Clipped}
 use Rattle.base_sequences.proofs.Clips.{clipped-long, clipped-then}
 use Rattle.base_readers.specs.Texts.{bytes, same}
-use Rattle.base_readers.specs.Readers.{run}
-use Rattle.base_readers.proofs.Texts.{same-long}
-use Rattle.text_write.specs.Phrases.{start, phrase}
+use Rattle.text_write.specs.Phrases.{phrase}
 use Rattle.explain_rules.specs.Explained.{column, behind, shown, text, whose_words, answer_words, count_words, field_words}
 use Rattle.explain_fields.specs.Internal.{whoses, answers, results, results_words, answer_on, whose_on}
 
--- ==== a column of one byte
-
-module _ (w : List ℕ) (b : ℕ) where
-  pub byte-long : (length w ≡ 1 → ⊥) → false ≡ same w (b ∷ [])
-  byte-long ne = sym (same-long w (b ∷ []) ne)
-
-pub byte-other : (w : List ℕ) (b : ℕ) → length w ≡ 1 → (get_or w 0 0 ≡ b → ⊥) → false ≡ same w (b ∷ [])
-unfolding same
-byte-other [] b h e = absurd (omega arith)
-byte-other (x ∷ w) b h e = rw (ne_eqb x b e)
-
-pub byte-same : (w : List ℕ) (b : ℕ) → length w ≡ 1 → get_or w 0 0 ≡ b → true ≡ same w (b ∷ [])
-unfolding same
-byte-same [] b h e = absurd (omega arith)
-byte-same (x ∷ []) b h e = rw (eq-eqb x b e)
-byte-same (x ∷ (y ∷ w)) b h e = absurd (omega arith)
-
 -- ==== how many results are not shown
-
-module _ (w : List ℕ) (z : Bool) (e : z ≡ same w (bytes "1")) where
-  pub results-one : z ≡ true → phrase 0 results ≡ results_words w
-  unfolding phrase start run results_words
-  results-one q = let t : same w (bytes "1") ≡ true = sym e ∙ q in rw t
-
-  pub results-many : z ≡ false → phrase 1 results ≡ results_words w
-  unfolding phrase start run results_words
-  results-many q = let t : same w (bytes "1") ≡ false = sym e ∙ q in rw t
 
 pub results-put : (w : List ℕ) (p : ℕ) → phrase p results ≡ results_words w → (old : List ℕ) (to : ℕ) (new : List ℕ) (r : ℕ) → Clipped old to (phrase p results) new r
     → Clipped old to (results_words w) new r
@@ -69,51 +40,11 @@ module _ (w old : List ℕ) (to : ℕ) (z : Bool) (e : z ≡ same w (bytes "0"))
 
 -- ==== what an answer means
 
-module _ (w : List ℕ) (z : Bool) (e : z ≡ same w (bytes "8")) where
-  pub answer-newer : z ≡ true → phrase 0 answers ≡ answer_words w
-  unfolding phrase start run answer_words
-  answer-newer q = let t : same w (bytes "8") ≡ true = sym e ∙ q in rw t
-
-  module _ (q : z ≡ false) (y : Bool) (f : y ≡ same w (bytes "9")) where
-    pub answer-unread : y ≡ true → phrase 1 answers ≡ answer_words w
-    unfolding phrase start run answer_words
-    answer-unread p =
-        let s : same w (bytes "8") ≡ false = sym e ∙ q in
-        let t : same w (bytes "9") ≡ true = sym f ∙ p in
-        rw (s, t)
-
-    pub answer-read : y ≡ false → phrase 2 answers ≡ answer_words w
-    unfolding phrase start run answer_words
-    answer-read p =
-        let s : same w (bytes "8") ≡ false = sym e ∙ q in
-        let t : same w (bytes "9") ≡ false = sym f ∙ p in
-        rw (s, t)
-
 pub answer-put : (w : List ℕ) (p : ℕ) → phrase p answers ≡ answer_words w → (old : List ℕ) (to : ℕ) (new : List ℕ) (r : ℕ) → Clipped old to (phrase p answers) new r
     → Clipped old to (answer_words w) new r
 answer-put w p e old to new r v = rw (← e) v
 
 -- ==== whose word it is
-
-module _ (w : List ℕ) (z : Bool) (e : z ≡ same w (bytes "own")) where
-  pub whose-own : z ≡ true → phrase 0 whoses ≡ whose_words w
-  unfolding phrase start run whose_words
-  whose-own q = let t : same w (bytes "own") ≡ true = sym e ∙ q in rw t
-
-  module _ (q : z ≡ false) (y : Bool) (f : y ≡ same w (bytes "other")) where
-    pub whose-other : y ≡ true → phrase 1 whoses ≡ whose_words w
-    unfolding phrase start run whose_words
-    whose-other p =
-        let s : same w (bytes "own") ≡ false = sym e ∙ q in
-        let t : same w (bytes "other") ≡ true = sym f ∙ p in
-        rw (s, t)
-
-    pub whose-unread : y ≡ false → phrase 2 whoses ≡ whose_words w
-    unfolding phrase start run whose_words
-    whose-unread p =
-        let s : same w (bytes "own") ≡ false = sym e ∙ q in
-        let t : same w (bytes "other") ≡ false = sym f ∙ p in
-        rw (s, t)
 
 pub whose-put : (w : List ℕ) (p : ℕ) → phrase p whoses ≡ whose_words w → (old : List ℕ) (to : ℕ) (new : List ℕ) (r : ℕ) → Clipped old to (phrase p whoses) new r
     → Clipped old to (whose_words w) new r

@@ -6,29 +6,17 @@
 
 ghost use Rattle.std.specs.Prelude.{◌≡◌, [], ◌∷◌, ◌++◌};
 ghost use Rattle.base_sequences.specs.Stored.{Clipped};
-ghost use Rattle.base_readers.specs.Texts.{bytes, same};
+ghost use Rattle.base_readers.specs.Texts.{bytes};
 ghost use Rattle.text_write.specs.Phrases.{phrase};
 ghost use Rattle.explain_rules.specs.Explained.{shown, whose_words, answer_words, count_words, field_words};
 ghost use Rattle.explain_fields.specs.Internal.{whoses, answers, results, results_words, whose_on, answer_on};
 
-// Whether a column is one byte, and this one.
-fn is_byte(w: &[u8], b: u8) -> bool
-    ensures { result ≡ same w.now (b ∷ []) }
-{
-    if w.len() != 1 {
-        return false;
-    }
-    if w[0] != b {
-        return false;
-    }
-    true
-}
-
 // The place of a count among the phrases of `put_results`.
+#[tactic(auto, unfolding(text_write::specs::Phrases::phrase, text_write::specs::Phrases::start, base_readers::specs::Readers::run, crate::specs::Internal::results_words))]
 fn results_place(w: &[u8]) -> usize
     ensures { phrase result results ≡ results_words w.now }
 {
-    if is_byte(w, b'1') {
+    if text_compare::exact::is_same(w, b"1") {
         return 0;
     }
     1
@@ -58,7 +46,7 @@ fn put_counted(w: &[u8], out: &mut [u8], to: usize) -> usize
 fn put_count(w: &[u8], out: &mut [u8], to: usize) -> usize
     ensures { Clipped out.old to (count_words w.now) out.new result }
 {
-    if is_byte(w, b'0') {
+    if text_compare::exact::is_same(w, b"0") {
         return to;
     }
     let a = put_counted(w, out, to);
@@ -66,13 +54,14 @@ fn put_count(w: &[u8], out: &mut [u8], to: usize) -> usize
 }
 
 // The place of an answer among the phrases of `put_answer`.
+#[tactic(auto, unfolding(text_write::specs::Phrases::phrase, text_write::specs::Phrases::start, base_readers::specs::Readers::run, explain_rules::specs::Explained::answer_words))]
 fn answer_place(w: &[u8]) -> usize
     ensures { phrase result answers ≡ answer_words w.now }
 {
-    if is_byte(w, b'8') {
+    if text_compare::exact::is_same(w, b"8") {
         return 0;
     }
-    if is_byte(w, b'9') {
+    if text_compare::exact::is_same(w, b"9") {
         return 1;
     }
     2
@@ -91,6 +80,7 @@ fn put_answer(w: &[u8], out: &mut [u8], to: usize) -> usize
 }
 
 // The place of an owner among the phrases of `put_whose`.
+#[tactic(auto, unfolding(text_write::specs::Phrases::phrase, text_write::specs::Phrases::start, base_readers::specs::Readers::run, explain_rules::specs::Explained::whose_words))]
 fn whose_place(w: &[u8]) -> usize
     ensures { phrase result whoses ≡ whose_words w.now }
 {

@@ -4,11 +4,8 @@
 // from `to` on, changes no other byte, and returns the place after the whole text, at most the largest place, which no buffer reaches.
 #![tactic(auto)]
 
-ghost use Rattle.std.specs.Prelude.{◌++◌};
 ghost use Rattle.base_sequences.specs.Stored.{Clipped};
-ghost use Rattle.text_write.specs.Phrases.{phrase};
-ghost use Rattle.explain_rules.specs.Explained.{text, method_words, property_words, words, line_words};
-ghost use Rattle.explain_lines.specs.Internal.{labels};
+ghost use Rattle.explain_rules.specs.Explained.{method_words, property_words, words, line_words};
 
 use explain_rules::Line;
 
@@ -31,30 +28,18 @@ fn put_property(l: &[u8], out: &mut [u8], to: usize) -> usize
     explain_columns::put_labelled(b": ", explain_columns::behind(letter), out, b)
 }
 
-// One of the labels of a line with one column, and that column.
-fn put_named(n: usize, l: &[u8], out: &mut [u8], to: usize) -> usize
-    ensures { Clipped out.old to (phrase n labels ++ text l.now) out.new result }
-{
-    let a = text_write::phrases::put_phrase(
-        b"  says it was checked by |  says header version |, reason: ",
-        n,
-        out,
-        to,
-    );
-    explain_texts::put_text(explain_columns::column(l), out, a)
-}
-
 // A line of a kind, by what stands behind its first column.
+#[tactic(auto, unfolding(explain_rules::specs::Explained::words))]
 fn put_words(k: Line, l: &[u8], out: &mut [u8], to: usize) -> usize
     ensures { Clipped out.old to (words k l.now) out.new result }
 {
     match k {
         Line::Field => explain_fields::put_field(l, out, to),
-        Line::Identifier => put_named(0, l, out, to),
-        Line::Version => put_named(1, l, out, to),
+        Line::Identifier => explain_columns::put_labelled(b"  says it was checked by ", l, out, to),
+        Line::Version => explain_columns::put_labelled(b"  says header version ", l, out, to),
         Line::NoResult => text_write::put_part(b"  says that nothing was checked", out, to),
         Line::Method => put_method(l, out, to),
-        Line::Reason => put_named(2, l, out, to),
+        Line::Reason => explain_columns::put_labelled(b", reason: ", l, out, to),
         Line::Property => put_property(l, out, to),
         Line::Other => to,
     }

@@ -13,37 +13,23 @@ ghost use Rattle.explain_rules.specs.Texts.{decoded, in_word, is_word, quoted_by
 ghost use Rattle.explain_rules.specs.Explained.{shown};
 
 // Whether a byte can stand in a plain word.
+#[tactic(auto, unfolding(explain_rules::specs::Texts::in_word, base_readers::specs::Texts::within, base_readers::specs::Texts::one_of))]
 fn in_word(b: u8) -> bool
     ensures { result ≡ in_word b }
 {
-    if b >= b'a' {
-        return b <= b'z';
-    }
-    if b > b'Z' {
-        return b == b'_';
-    }
-    if b >= b'@' {
-        return true;
-    }
-    if b > b'9' {
-        return false;
-    }
-    if b < b'+' {
-        return false;
-    }
-    b != b','
+    matches!(b, b'a'..=b'z' | b'A'..=b'Z' | b'0'..=b'9' | b'+' | b'-' | b'.' | b'/' | b'@' | b'_')
 }
 
 // Whether the text of a column is a plain word.
 fn is_word(part: &[u8]) -> bool
     ensures { result ≡ is_word (decoded part.now) }
 {
-    let mut i: usize = 0;
-    while i < part.len() {
-        if !in_word(explain_codes::byte_at(part, i)) {
+    let mut rest = part;
+    while let Some((b, behind)) = explain_codes::split_first(rest) {
+        if !in_word(b) {
             return false;
         }
-        i = i + 1 + explain_codes::more_at(part, i);
+        rest = behind;
     }
     part.len() != 0
 }
@@ -52,20 +38,15 @@ fn is_word(part: &[u8]) -> bool
 fn is_mark(b: u8) -> bool
     ensures { result ≡ (eqb b 34 || eqb b 92) }
 {
-    if b == b'"' {
-        return true;
-    }
-    b == b'\\'
+    matches!(b, b'"' | b'\\')
 }
 
 // Whether a terminal can be shown a byte as it is.
+#[tactic(auto, unfolding(base_readers::specs::Texts::within))]
 fn is_printed(b: u8) -> bool
     ensures { result ≡ within 32 126 b }
 {
-    if b < b' ' {
-        return false;
-    }
-    b <= b'~'
+    matches!(b, b' '..=b'~')
 }
 
 // The upper-case hex digit of the lower half of a byte.
@@ -107,10 +88,10 @@ fn put_quoted(part: &[u8], out: &mut [u8], to: usize) -> usize
     ensures { Clipped out.old to (quoted_bytes (decoded part.now)) out.new result }
 {
     let mut n = to;
-    let mut i: usize = 0;
-    while i < part.len() {
-        n = put_quoted_byte(explain_codes::byte_at(part, i), out, n);
-        i = i + 1 + explain_codes::more_at(part, i);
+    let mut rest = part;
+    while let Some((b, behind)) = explain_codes::split_first(rest) {
+        n = put_quoted_byte(b, out, n);
+        rest = behind;
     }
     n
 }

@@ -2,7 +2,7 @@
 //
 // A struct is returned by value. On a refusal all but number and place are 0.
 ghost use Rattle.std.specs.Prelude.{◌≡◌};
-ghost use Rattle.host_structs.specs.JudgeFaces.{has_oldest_pass, judged_face};
+ghost use Rattle.host_structs.specs.JudgeFaces.{judged_face};
 
 use arc_rules::Judged;
 
@@ -21,29 +21,21 @@ pub struct JudgeFace {
     pub oldest_pass: usize,
 }
 
-// 1 for the status pass, which is where there is an oldest-pass.
-fn has_oldest_pass(status: u8) -> u8
-    ensures { result ≡ has_oldest_pass status }
-{
-    if status == 1 {
-        return 1;
-    }
-    0
-}
+// What `arc::judge` answered. There is an oldest-pass for the status pass alone.
+impl From<Judged> for JudgeFace {
+    ghost from_gives = { λ j face. face ≡ judged_face j };
 
-// What `arc::judge` answered.
-pub fn judge_face(j: Judged) -> JudgeFace
-    ensures { result ≡ judged_face j }
-{
-    JudgeFace {
-        number: j.number,
-        outcome: j.outcome,
-        reason: j.reason,
-        status: j.status,
-        has_oldest_pass: has_oldest_pass(j.status),
-        place: j.place,
-        field: j.field,
-        instances: j.instances,
-        oldest_pass: j.oldest,
+    fn from(j: Judged) -> JudgeFace {
+        JudgeFace {
+            number: j.number,
+            outcome: j.outcome,
+            reason: j.reason,
+            status: j.status,
+            has_oldest_pass: u8::from(j.status == 1),
+            place: j.place,
+            field: j.field,
+            instances: j.instances,
+            oldest_pass: j.oldest,
+        }
     }
 }

@@ -70,80 +70,90 @@ pub struct NextFace {
 }
 
 // What `strip::mark` answered.
-pub fn mark_face(m: Marked) -> MarkFace
-    ensures { result ≡ marked_face m }
-{
-    MarkFace {
-        number: m.number,
-        place: m.place,
-        written: m.written,
+impl From<Marked> for MarkFace {
+    ghost from_gives = { λ m face. face ≡ marked_face m };
+
+    fn from(m: Marked) -> MarkFace {
+        MarkFace {
+            number: m.number,
+            place: m.place,
+            written: m.written,
+        }
     }
 }
 
 // What `strip::copy` answered.
-pub fn copy_face(s: Stripped) -> CopyFace
-    ensures { result ≡ copied_face s }
-{
-    CopyFace {
-        number: s.number,
-        place: s.place,
-        kept: s.kept,
-        removed: s.removed,
-        fields: s.fields,
+impl From<Stripped> for CopyFace {
+    ghost from_gives = { λ s face. face ≡ copied_face s };
+
+    fn from(s: Stripped) -> CopyFace {
+        CopyFace {
+            number: s.number,
+            place: s.place,
+            kept: s.kept,
+            removed: s.removed,
+            fields: s.fields,
+        }
     }
 }
 
 // What `report::report` answered.
-pub fn report_face(a: Reported) -> ReportFace
-    ensures { result ≡ reported_face a }
-{
-    ReportFace {
-        number: a.number,
-        place: a.place,
-        written: a.written,
-        ignored: a.ignored,
+impl From<Reported> for ReportFace {
+    ghost from_gives = { λ a face. face ≡ reported_face a };
+
+    fn from(a: Reported) -> ReportFace {
+        ReportFace {
+            number: a.number,
+            place: a.place,
+            written: a.written,
+            ignored: a.ignored,
+        }
     }
 }
 
 // What `write::write` answered.
-pub fn write_face(w: Written) -> WriteFace
-    ensures { result ≡ written_face w }
-{
-    WriteFace {
-        number: w.number,
-        place: w.place,
-        written: w.written,
+impl From<Written> for WriteFace {
+    ghost from_gives = { λ w face. face ≡ written_face w };
+
+    fn from(w: Written) -> WriteFace {
+        WriteFace {
+            number: w.number,
+            place: w.place,
+            written: w.written,
+        }
     }
 }
 
 // What `block_walk::field_from` answered: a field, or the last answer.
-pub fn next_face(step: Step) -> NextFace
-    ensures { result ≡ next_face step }
-{
-    match step {
-        Step::Field {
-            start,
-            name_end,
-            body_start,
-            end,
-        } => NextFace {
-            number: Number::DONE,
-            found: 1,
-            place: 0,
-            start,
-            name_end,
-            body_start,
-            end,
-        },
-        Step::Last { number, place } => NextFace {
-            number,
-            found: 0,
-            place,
-            start: 0,
-            name_end: 0,
-            body_start: 0,
-            end: 0,
-        },
+impl From<Step> for NextFace {
+    ghost from_gives = { λ step face. face ≡ next_face step };
+
+    fn from(step: Step) -> NextFace {
+        match step {
+            Step::Field {
+                start,
+                name_end,
+                body_start,
+                end,
+            } => NextFace {
+                number: Number::DONE,
+                found: 1,
+                place: 0,
+                start,
+                name_end,
+                body_start,
+                end,
+            },
+            Step::Last { number, place } => NextFace {
+                number,
+                found: 0,
+                place,
+                start: 0,
+                name_end: 0,
+                body_start: 0,
+                end: 0,
+            },
+        }
     }
 }
 

@@ -14,7 +14,7 @@ pub fn whose(list: &[u8], body: &[u8]) -> WhoseFace
 {
     match ownlist_ready::readiness(body, list) {
         Ready::Refused { number, place } => host_whose_struct::refuse_whose(number, place),
-        Ready::AsItStands => host_whose_struct::whose_face(ownlist::whose_spelled(list, body)),
-        Ready::ToSpell => host_whose_struct::whose_face(ownlist::whose(list, body)),
+        Ready::AsItStands => ownlist::whose_spelled(list, body).into(),
+        Ready::ToSpell => ownlist::whose(list, body).into(),
     }
 }

@@ -30,13 +30,15 @@ fn owner_code(o: Own) -> u8
 }
 
 // What `ownlist::whose` answered.
-pub fn whose_face(o: Own) -> WhoseFace
-    ensures { result ≡ tell_whose o }
-{
-    WhoseFace {
-        number: Number::DONE,
-        whose: owner_code(o),
-        place: 0,
+impl From<Own> for WhoseFace {
+    ghost from_gives = { λ o face. face ≡ tell_whose o };
+
+    fn from(o: Own) -> WhoseFace {
+        WhoseFace {
+            number: Number::DONE,
+            whose: owner_code(o),
+            place: 0,
+        }
     }
 }
 

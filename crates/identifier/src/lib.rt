@@ -8,11 +8,13 @@ ghost use Rattle.std.specs.Prelude.{◌≡◌, ◌+◌, drop};
 ghost use Rattle.identifier_rules.specs.Identifier.{identifier_byte, identifier_token};
 ghost use Rattle.identifier.specs.Answers.{readable, identifier_at};
 
+use base_runs::ByteTest;
 use lexis_rules::Class;
 
 pub mod version;
 
 // Where an identifier stands: from `start` up to `end`, with its quotes where it is quoted.
+// No Option: document 01 wants an enum here, which is taken apart by `let .. else`.
 #[derive(Drop)]
 pub enum Identifier {
     Readable {
@@ -33,19 +35,16 @@ pub fn in_identifier(b: u8) -> bool
     lexis_classes::in_class(Class::Token, b)
 }
 
-// The end of the token of an identifier: one byte at a time.
-fn token_from(s: &[u8], at: usize) -> usize
-    ensures { result ≡ at + identifier_token (drop at s.now) }
-{
-    let mut i = at;
-    while i < s.len() {
-        if in_identifier(s[i]) {
-            i += 1;
-        } else {
-            return i;
-        }
+// The bytes of the token of an identifier.
+#[derive(Drop)]
+struct IdentifierByte;
+
+impl ByteTest for IdentifierByte {
+    ghost passes = { λ t. identifier_byte };
+
+    fn passes(&self, b: u8) -> bool {
+        in_identifier(b)
     }
-    i
 }
 
 // The end of the token of an identifier; one of ASCII alone ends where any token does.
@@ -56,7 +55,7 @@ fn identifier_token_end(s: &[u8], at: usize) -> usize
     if base_readers::byte(s, e, 0) < 128 {
         return e;
     }
-    token_from(s, e)
+    IdentifierByte.run_end(s, e)
 }
 
 // The value from a up to e, if there is one and it is delimited.

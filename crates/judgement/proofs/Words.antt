@@ -1,13 +1,11 @@
 -- A judgement, stored: its two lines one after another; and digits turned into verdicts. The premises are literally what a need is handed.
-use Prim.Native.Nat.{ℕ, zero, suc, ◌+◌, ◌-◌, ◌≤◌, ◌<◌, ◌^◌}
+use Prim.Native.Nat.{ℕ, zero, suc, ◌+◌, ◌≤◌, ◌<◌, ◌^◌}
 use native.Mathlib.Omega.{arith}
 use mathlib.Core.Path.{◌≡◌, refl, ap, ◌∙◌}
 use mathlib.Core.List.{List, [], ◌∷◌, map}
 use lib.ListN.{length, get_or, set}
-use borrow.Author.Tests.{lt-leb, le-leb}
 use Rattle.base_sequences.specs.Stored.{Clipped}
 use Rattle.base_sequences.proofs.Clips.{clipped-long, clipped-then}
-use Rattle.base_readers.specs.Texts.{within}
 use Rattle.arc_rules.specs.declared.Judged.{Judged}
 use Rattle.judgement_rules.specs.Judgement.{verdict_of, columns_line, chain_words, judgement}
 
@@ -19,19 +17,6 @@ module _ (j : Judged) {o₀ o₁ o₂ o₃ : List ℕ} {to a b c : ℕ} (h : len
   judgement-put p q r = let k = clipped-long p in clipped-then (omega arith) p (clipped-then (omega (arith, k)) q r)
 
 -- ==== verdicts
-
-module _ (b : ℕ) where
-  pub verdict-below : b < 48 → 255 ≡ verdict_of b
-  unfolding verdict_of within
-  verdict-below h = rw (lt-leb 48 b h)
-
-  pub verdict-above : 51 < b → 255 ≡ verdict_of b
-  unfolding verdict_of within
-  verdict-above h = rw (le-leb 48 b (omega arith), lt-leb b 51 h)
-
-  pub verdict-digit : 48 ≤ b → b ≤ 51 → b - 48 ≡ verdict_of b
-  unfolding verdict_of within
-  verdict-digit l h = rw (le-leb 48 b l, le-leb b 51 h)
 
 -- the first i bytes are verdicts, the others still digits
 abbrev pub turned_digits : ℕ → List ℕ → List ℕ

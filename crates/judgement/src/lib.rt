@@ -10,27 +10,24 @@ ghost use Rattle.judgement_rules.specs.Judgement.{verdict_of, judgement};
 
 use arc_rules::Judged;
 
-// The verdict that a digit says, and a byte that is no verdict where it is no such digit.
+// The verdict that a digit says, and a byte that is no verdict where it is no such digit. It is a byte, and no enum, since `arc::judge` is handed bytes
+// and is itself the test of them.
+#[tactic(auto, unfolding(judgement_rules::specs::Judgement::verdict_of, base_readers::specs::Texts::within))]
 fn verdict(b: u8) -> u8
     ensures { result ≡ verdict_of b }
 {
-    if b < b'0' {
-        return 255;
+    match b {
+        b'0'..=b'3' => b - b'0',
+        _ => 255,
     }
-    if b > b'3' {
-        return 255;
-    }
-    b - b'0'
 }
 
-// Digits turned into verdicts, in place.
+// Digits turned into verdicts, in place. By index: of what is written through `iter_mut` a proof knows no element.
 pub fn read_verdicts(word: &mut [u8])
     ensures { word.new ≡ map verdict_of word.old }
 {
-    let mut i: usize = 0;
-    while i < word.len() {
+    for i in 0..word.len() {
         word[i] = verdict(word[i]);
-        i += 1;
     }
 }
 

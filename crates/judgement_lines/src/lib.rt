@@ -14,7 +14,7 @@ use arc_rules::Judged;
 
 pub mod words;
 
-// `chain`, a tab and the word of an outcome.
+// `chain`, a tab and the word of an outcome. The function of the reason and that of the status are one call of `put_phrase` too, of another definition each.
 fn put_outcome(n: u8, out: &mut [u8], to: usize) -> usize
     ensures { Clipped out.old to (outcome_column n) out.new result }
 {

@@ -9,6 +9,7 @@ ghost use Rattle.base_readers.specs.Readers.{run, many};
 ghost use Rattle.lexis_rules.specs.Bytes.{in_class};
 ghost use Rattle.lexis_rules.specs.Pieces.{escapes, pair, fold, item, bare_space};
 
+use base_runs::ByteTest;
 use lexis_rules::Class;
 
 mod classes;
@@ -28,19 +29,23 @@ pub fn class_at(s: &[u8], at: usize, k: usize, c: Class) -> bool
     in_class(c, base_readers::byte(s, at, k))
 }
 
+// The bytes of a class.
+#[derive(Drop)]
+struct Of(Class);
+
+impl ByteTest for Of {
+    ghost passes = { λ t. in_class t.0 };
+
+    fn passes(&self, b: u8) -> bool {
+        in_class(self.0, b)
+    }
+}
+
 // The end of the run of bytes of a class.
 pub fn run_end(s: &[u8], at: usize, c: Class) -> usize
     ensures { result ≡ at + run (in_class c) (drop at s.now) }
 {
-    let mut i = at;
-    while i < s.len() {
-        if in_class(c, s[i]) {
-            i += 1;
-        } else {
-            return i;
-        }
-    }
-    i
+    Of(c).run_end(s, at)
 }
 
 // A backslash stands in quoted strings and comments only.
@@ -48,19 +53,8 @@ fn escapes(c: Class) -> bool
     ensures { result ≡ escapes c }
 {
     match c {
-        Class::Blank => false,
-        Class::Opening => false,
-        Class::Zero => false,
-        Class::Digit => false,
-        Class::Keyword => false,
-        Class::Token => false,
-        Class::Quoted => true,
-        Class::Comment => true,
-        Class::Escaped => false,
-        Class::Name => false,
-        Class::Visible => false,
-        Class::Delimiter => false,
-        Class::Tag => false,
+        Class::Quoted | Class::Comment => true,
+        _ => false,
     }
 }
 
@@ -106,7 +100,8 @@ pub fn item_at(s: &[u8], at: usize, c: Class) -> usize
     0
 }
 
-// The end of the items of a class, one after the other.
+// The end of the items of a class, one after the other. A turn goes on by as many bytes as it found, one to three, so there is no range to go
+// over.
 pub fn items_end(s: &[u8], at: usize, c: Class) -> usize
     ensures { result ≡ at + many (item c) 0 (drop at s.now) }
 {

@@ -61,7 +61,7 @@ fn comment_from(s: &[u8], c: Cursor) -> usize
 }
 
 // What a comment holds, at a cursor behind its "(". The bytes of one comment are a loop: each turn passes a run of plain bytes, and then
-// a comment inside or another item.
+// a comment inside or another item. How far a turn goes is what it reads, so there is no range to go over.
 #[cycle(comment_from_content_from)]
 fn content_from(s: &[u8], c: Cursor) -> usize
     ensures { result ≡ c.at + content c.depth Class.Comment (drop c.at s.now) }

@@ -29,13 +29,7 @@ fn digit(b: u8) -> u32
     requires { in_class Class.Digit b ≡ true }
     ensures { result ≡ b - 48 }
 {
-    wide(b - b'0')
-}
-
-fn wide(x: u8) -> u32
-    ensures { result ≡ x }
-{
-    x as u32
+    u32::from(b - b'0')
 }
 
 // The number of a run of at most six digits, from `start` up to `end`.
@@ -44,10 +38,8 @@ fn sum(s: &[u8], start: usize, end: usize) -> u32
     ensures { result ≡ decimal 0 (drop start s.now) }
 {
     let mut n: u32 = 0;
-    let mut k = start;
-    while k < end {
+    for k in start..end {
         n = n * 10 + digit(s[k]);
-        k += 1;
     }
     n
 }

@@ -1,6 +1,6 @@
 -- Which bytes are in no class, and which can start no space.
 use Prim.Native.Nat.{ℕ, zero, suc, ◌<◌}
-use mathlib.Core.Path.{◌≡◌, refl, sym, ◌∙◌}
+use mathlib.Core.Path.{◌≡◌, refl, sym, ◌∙◌, ap}
 use mathlib.Core.Bool.{Bool, true, false, ◌||◌}
 use lib.Dec.{eqb, ltb}
 use borrow.Author.Tests.{eqb-true, ne_eqb}
@@ -47,14 +47,9 @@ not-blank b e = rw (not-opening 32 b refl e, not-opening 9 b refl e)
 
 -- ==== space and tab
 
-module _ (b : ℕ) where
-  pub blank-space : b ≡ 32 → true ≡ in_class Blank b
-  unfolding in_class one_of
-  blank-space e = rw e
-
-  pub blank-tab : (b ≡ 32 → ⊥) → eqb b 9 ≡ in_class Blank b
-  unfolding in_class one_of
-  blank-tab n = rw (ne_eqb b 32 n) (sym (or-none (eqb b 9)))
+pub blank-either : (b : ℕ) → (eqb b 32 || eqb b 9) ≡ in_class Blank b
+unfolding in_class one_of
+blank-either b = ap (λ (t : Bool). eqb b 32 || t) (sym (or-none (eqb b 9)))
 
 -- ==== bytes that stand in a run for sure: none of these tests stops them
 

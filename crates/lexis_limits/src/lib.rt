@@ -5,7 +5,7 @@ ghost use Rattle.std.specs.Prelude.{◌≡◌, ltb, length};
 ghost use Rattle.lexis_rules.specs.Limits.{byte_limit};
 ghost use Rattle.lexis_limits.specs.Sizes.{size_of};
 
-// How many bytes a block or a field body has.
+// How many bytes a block or a field body has: document 01 names this form, a type that has its limit as a constant.
 #[derive(Drop)]
 pub struct Size {
     pub bytes: usize,

@@ -6,44 +6,33 @@
 
 ghost use Rattle.std.specs.Prelude.{◌≡◌, ◌+◌, drop, get_or};
 ghost use Rattle.base_readers.specs.Readers.{run};
+ghost use Rattle.lexis_rules.specs.declared.Class.TheVariants as class;
 ghost use Rattle.lexis_rules.specs.Bytes.{in_class};
 ghost use Rattle.lexis_rules.specs.Pieces.{space};
 
+use base_runs::ByteTest;
 use lexis_rules::Class;
 
-// Whether a byte is a space or a tab.
-fn is_blank(b: u8) -> bool
-    ensures { result ≡ in_class Class.Blank b }
-{
-    if b == b' ' {
-        return true;
-    }
-    b == b'\t'
-}
+// Spaces and tabs.
+#[derive(Drop)]
+struct Blank;
 
-// The end of a run of spaces and tabs.
-fn blanks_end(s: &[u8], at: usize) -> usize
-    ensures { result ≡ at + run (in_class Class.Blank) (drop at s.now) }
-{
-    let mut i = at;
-    while i < s.len() {
-        if is_blank(s[i]) {
-            i += 1;
-        } else {
-            return i;
-        }
+impl ByteTest for Blank {
+    ghost passes = { λ t. in_class class.Blank };
+
+    fn passes(&self, b: u8) -> bool {
+        (b == b' ') | (b == b'\t')
     }
-    i
 }
 
 // The end of a space that starts with a byte with which one can start: each turn passes a run of spaces and tabs, and then a comment or
-// a fold.
+// a fold, as far as these reach, so there is no range to go over.
 fn space_from(s: &[u8], at: usize) -> usize
     ensures { result ≡ at + space (drop at s.now) }
 {
     let mut i = at;
     loop {
-        let e = blanks_end(s, i);
+        let e = Blank.run_end(s, i);
         if base_readers::is_at(s, e, 0, b'(') {
             let f = lexis_comments::comment_end(s, e);
             if f == e {

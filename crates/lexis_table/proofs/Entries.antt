@@ -74,9 +74,6 @@ has-digit c b = rw (left (entry_of b) (place_of c)) (go (entry_of b / 2 ^ place_
 
 -- ==== what the functions ask
 
-pub digit-asked : (b e d : ℕ) → e ≡ entry_of b → not (eqb (bit_and e d) 0) ≡ has_digit d b
-digit-asked b e d q = rw q
-
 -- tests that say the same of each byte have the same runs
 alike : (f g : ℕ → Bool) → ((b : ℕ) → f b ≡ g b) → (xs : List ℕ) → run f xs ≡ run g xs
 unfolding run
@@ -87,13 +84,6 @@ alike f g h (x ∷ xs) = rw (run, h x) (go (run f xs) (run g xs) (alike f g h xs
     go m n e true = ap suc e
     go m n e false = refl
 
--- the run of bytes of a class is that of the bytes whose entries have its binary digit, wherever the loop leaves it
-module _ (c : Class) (s : List ℕ) (at i d : ℕ) (q : d ≡ digit_of c) (w : Reaches (run (has_digit d)) s at i) where
-  class-run : i ≡ at + run (has_digit d) (drop at s) → i ≡ at + run (in_class c) (drop at s)
-  class-run e = e ∙ ap (λ (n : ℕ). at + n) (rw q (alike (has_digit (digit_of c)) (in_class c) (has-digit c) (drop at s)))
-
-  pub class-off : (r : Bool) → i < length s → r ≡ has_digit d (get_or s i 0) → r ≡ false → i ≡ at + run (in_class c) (drop at s)
-  class-off r h e z = class-run (run-off (has_digit d) s at i r w h e z)
-
-  pub class-out : length s ≤ i → i ≡ at + run (in_class c) (drop at s)
-  class-out h = class-run (run_out (has_digit d) s at i w h)
+-- the run of bytes of a class is that of the bytes whose entries have its binary digit
+pub class-run : (c : Class) (s : List ℕ) (at d i : ℕ) → d ≡ digit_of c → i ≡ at + run (has_digit d) (drop at s) → i ≡ at + run (in_class c) (drop at s)
+class-run c s at d i q e = e ∙ ap (λ (n : ℕ). at + n) (rw q (alike (has_digit (digit_of c)) (in_class c) (has-digit c) (drop at s)))

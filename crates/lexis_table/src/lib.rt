@@ -1,6 +1,6 @@
 // Runs of bytes of a class, by a table of 256 entries (02, ticket [5]).
 //
-// The table is `lexis_table::table::entry`. So that it is compiled into the loop, `is_of` alone calls it.
+// The table is `lexis_table::table::entry`. So that it is compiled into the loop, the test `Of` alone calls it.
 #![tactic(auto)]
 
 ghost use Rattle.std.specs.Prelude.{◌≡◌, ◌+◌, drop};
@@ -8,6 +8,7 @@ ghost use Rattle.base_readers.specs.Readers.{run};
 ghost use Rattle.lexis_rules.specs.Bytes.{in_class};
 ghost use Rattle.lexis_table.specs.Internal.{digit_of, has_digit};
 
+use base_runs::ByteTest;
 use lexis_rules::Class;
 
 mod table;
@@ -33,25 +34,21 @@ fn digit(c: Class) -> u16
     }
 }
 
-// Whether a byte is of the class that has a binary digit.
-fn is_of(b: u8, digit: u16) -> bool
-    ensures { result ≡ has_digit digit b }
-{
-    table::entry(b) & digit != 0
+// The bytes of the class that has a binary digit. `passes` alone looks into the table.
+#[derive(Drop)]
+struct Of(u16);
+
+impl ByteTest for Of {
+    ghost passes = { λ t. has_digit t.0 };
+
+    fn passes(&self, b: u8) -> bool {
+        table::entry(b) & self.0 != 0
+    }
 }
 
 // The end of the run of bytes of a class.
 pub fn run_end(s: &[u8], at: usize, c: Class) -> usize
     ensures { result ≡ at + run (in_class c) (drop at s.now) }
 {
-    let digit = digit(c);
-    let mut i = at;
-    while i < s.len() {
-        if is_of(s[i], digit) {
-            i += 1;
-        } else {
-            return i;
-        }
-    }
-    i
+    Of(digit(c)).run_end(s, at)
 }

@@ -2,7 +2,7 @@
 //
 // The table is a `match` that names each byte, which is compiled to a constant table that is read in place; an array would be stored to the
 // stack in each call. Bytes with one entry share an arm, the even ones and the odd ones apart: bytes of one arm that stand next to each other
-// would be compiled to comparisons. So that the table is compiled into the loop over a run, `entry` is called at one place alone, in `lexis_table::is_of`.
+// would be compiled to comparisons. So that the table is compiled into the loop over a run, `entry` is called at one place alone, in `passes` of the test `Of`.
 ghost use Rattle.std.specs.Prelude.{◌≡◌};
 ghost use Rattle.lexis_table.specs.Table.{entry_of};
 

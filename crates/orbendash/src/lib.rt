@@ -27,7 +27,7 @@ pub fn orbendash_mark(s: &[u8], list: &[u8], out: &mut [u8]) -> MarkFace
     ensures value { result ≡ mark_face (mark s.now list.now (length out.old)) }
     ensures out_after { out.new ≡ marking.leaves (mark s.now list.now (length out.old)) out.old }
 {
-    host_structs::mark_face(strip::mark(s, list, out))
+    strip::mark(s, list, out).into()
 }
 
 // The block without these fields, given that answer (`strip::copy`).
@@ -35,7 +35,7 @@ pub fn orbendash_copy(s: &[u8], list: &[u8], marks: &[u8], out: &mut [u8]) -> Co
     ensures value { result ≡ copy_face (copy s.now list.now marks.now (length out.old)) }
     ensures out_after { out.new ≡ copying.leaves (copy s.now list.now marks.now (length out.old)) out.old }
 {
-    host_structs::copy_face(strip::copy(s, list, marks, out))
+    strip::copy(s, list, marks, out).into()
 }
 
 // The report of a field body (`report::report`).
@@ -43,7 +43,7 @@ pub fn orbendash_report(body: &[u8], out: &mut [u8]) -> ReportFace
     ensures value { result ≡ report_face (report body.now (length out.old)) }
     ensures out_after { out.new ≡ reporting.leaves (report body.now (length out.old)) out.old }
 {
-    host_structs::report_face(report::report(body, out))
+    report::report(body, out).into()
 }
 
 // The body that report lines say (`write::write`).
@@ -51,21 +51,21 @@ pub fn orbendash_write(lines: &[u8], out: &mut [u8]) -> WriteFace
     ensures value { result ≡ write_face (compose lines.now (length out.old)) }
     ensures out_after { out.new ≡ writing.leaves (compose lines.now (length out.old)) out.old }
 {
-    host_structs::write_face(write::write(lines, out))
+    write::write(lines, out).into()
 }
 
 // Whether the ARC chain of a block is built, and what it says by the verdicts (`arc::judge`).
 pub fn orbendash_judge(s: &[u8], verdicts: &[u8]) -> JudgeFace
     ensures { result ≡ judge_face (judge s.now verdicts.now) }
 {
-    host_structs::judge::judge_face(arc::judge(s, verdicts))
+    arc::judge(s, verdicts).into()
 }
 
 // A step of the walking reader from a place: a field, or the last answer (`block_walk::field_from`).
 pub fn orbendash_next_field(s: &[u8], place: usize) -> NextFace
     ensures { result ≡ next_face (step_from s.now place) }
 {
-    host_structs::next_face(block_walk::field_from(s, place))
+    block_walk::field_from(s, place).into()
 }
 
 // Whose the identifier of a field body is: ours, another's, or unreadable (`host_whose::whose`). 1 where the body is too long, then 5 where the list is bad.

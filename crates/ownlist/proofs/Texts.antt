@@ -35,6 +35,14 @@ module _ (lines : List (List ℕ)) (t : List ℕ) where
     pub plain-line : length t ≤ 1020 → (r : Bool) → r ≡ among_lines lines t → r ≡ among_spelled lines t
     plain-line l r e = short-is (rw plain l) r (rw plain e)
 
+  -- a text of more than 11,230 bytes has a spelling of more than 1,020
+  pub text-long : 11230 < length t → false ≡ among_spelled lines t
+  text-long h = go (leb (length (spelling t)) spelling_limit) refl
+    where
+      go : (b : Bool) → leb (length (spelling t)) spelling_limit ≡ b → false ≡ among_spelled lines t
+      go true b = let l = leb-true (length (spelling t)) spelling_limit b in absurd (omega (arith, h, spelling-least t l))
+      go false b = long-not (leb-false (length (spelling t)) spelling_limit b)
+
   -- spelled into a buffer
   module _ (old new : List ℕ) (n : ℕ) (w : Spelt old t new n) where
     pub spelt-long : 1020 < n → false ≡ among_spelled lines t
@@ -43,14 +51,7 @@ module _ (lines : List (List ℕ)) (t : List ℕ) where
     pub spelt-line : n ≤ 1020 → n ≤ length old → (r : Bool) → r ≡ among_lines lines (take n new) → r ≡ among_spelled lines t
     spelt-line l h r e = short-is (omega (arith, w.size l)) r (rw (w.front l h) at e)
 
-  -- written into a buffer: a text of more than 11,230 bytes has a spelling of more than 1,020
+  -- written into a buffer
   module _ (old new : List ℕ) (n : ℕ) (w : Put old 0 t new n) where
-    pub text-long : 11230 < n → false ≡ among_spelled lines t
-    text-long h = go (leb (length (spelling t)) spelling_limit) refl
-      where
-        go : (b : Bool) → leb (length (spelling t)) spelling_limit ≡ b → false ≡ among_spelled lines t
-        go true b = let l = leb-true (length (spelling t)) spelling_limit b in absurd (omega (arith, w.count, spelling-least t l))
-        go false b = long-not (leb-false (length (spelling t)) spelling_limit b)
-
     pub text-line : n ≤ length old → (r : Bool) → r ≡ among_spelled lines (take n new) → r ≡ among_spelled lines t
     text-line h r e = rw (put_front w h) at e

@@ -6,17 +6,18 @@
 // caller's to ask first (`ownlist_check::check_list`).
 #![tactic(auto)]
 
-ghost use Rattle.std.specs.Prelude.{◌≡◌, drop};
+ghost use Rattle.std.specs.Prelude.{◌≡◌, ◌<◌, ◌≤◌, length, drop, MatchOption};
 ghost use Rattle.lexis_rules.specs.Words.{quoted_text};
 ghost use Rattle.ownlist_rules.specs.OwnList.{own_list};
 ghost use Rattle.identifier_rules.specs.Identifier.{identifier};
 ghost use Rattle.ownlist_rules.specs.Listed.{own_if, own_of};
 ghost use Rattle.base_readers.specs.Lines.{lines_of};
 ghost use Rattle.ownlist_rules.specs.Spelled.{among_spelled, own_of_spelled};
-ghost use Rattle.ownlist_rules.specs.Ends.{cut_at};
+ghost use Rattle.ownlist_lines.specs.Lines.{lines_in};
 
 use identifier::Identifier;
 use ownlist_check::Entries;
+use ownlist_lines::Lines;
 use ownlist_rules::Own;
 use punycode::Spelling;
 
@@ -24,52 +25,54 @@ use punycode::Spelling;
 const UNSPELLED: usize = 11 * Spelling::LONGEST + 10;
 
 // Whether a text that may have an A-label is spelled as a line. A spelling of more than 1,020 bytes is not.
-fn is_decoded_line(own: &[u8], ends: &[usize], text: &[u8]) -> bool
-    ensures { result ≡ among_spelled (cut_at own.now 0 ends.now) text.now }
+fn is_decoded_line(lines: &Lines<'_>, text: &[u8]) -> bool
+    ensures { result ≡ among_spelled (lines_in lines.now) text.now }
 {
     let mut spelled = [0u8; Spelling::LONGEST];
     let n = punycode::spell(text, &mut spelled);
     if n > Spelling::LONGEST {
         return false;
     }
-    ownlist_lines::is_line(own, ends, &spelled[..n])
+    ownlist_lines::is_line(lines, &spelled[..n])
 }
 
 // Whether a text is spelled as a line. One without two hyphens in a row is its own spelling.
-fn is_spelled_line(own: &[u8], ends: &[usize], text: &[u8]) -> bool
-    ensures { result ≡ among_spelled (cut_at own.now 0 ends.now) text.now }
+fn is_spelled_line(lines: &Lines<'_>, text: &[u8]) -> bool
+    ensures { result ≡ among_spelled (lines_in lines.now) text.now }
 {
     if punycode_hyphens::has_double_hyphen(text) {
-        return is_decoded_line(own, ends, text);
+        return is_decoded_line(lines, text);
     }
     if text.len() > Spelling::LONGEST {
         return false;
     }
-    ownlist_lines::is_line(own, ends, text)
+    ownlist_lines::is_line(lines, text)
 }
 
-// Whether the text of the quoted string that starts at a place is spelled as a line, where it is longer than an entry.
-fn is_long_quoted_line(own: &[u8], ends: &[usize], body: &[u8], at: usize) -> bool
-    ensures { result ≡ among_spelled (cut_at own.now 0 ends.now) (quoted_text (drop at body.now)) }
+// Whether the text of the quoted string that starts at a place is spelled as a line; not told where it has more than N bytes.
+fn is_quoted_line_within<const N: usize>(lines: &Lines<'_>, body: &[u8], at: usize) -> Option<bool>
+    requires { N ≤ 11230 }
+    ensures { MatchOption result (N < length (quoted_text (drop at body.now))) (λ r. r ≡ among_spelled (lines_in lines.now) (quoted_text (drop at body.now))) }
 {
-    let mut text = [0u8; UNSPELLED];
+    let mut text = [0u8; N];
     let n = text_quoted::put_quoted(body, at, &mut text, 0);
-    if n > UNSPELLED {
-        return false;
+    if n > N {
+        return None;
     }
-    is_spelled_line(own, ends, &text[..n])
+    Some(is_spelled_line(lines, &text[..n]))
 }
 
-// Whether the text of the quoted string that starts at a place is spelled as a line.
-fn is_quoted_line(own: &[u8], ends: &[usize], body: &[u8], at: usize) -> bool
-    ensures { result ≡ among_spelled (cut_at own.now 0 ends.now) (quoted_text (drop at body.now)) }
+// Whether the text of the quoted string that starts at a place is spelled as a line. Most have room in the small buffer.
+fn is_quoted_line(lines: &Lines<'_>, body: &[u8], at: usize) -> bool
+    ensures { result ≡ among_spelled (lines_in lines.now) (quoted_text (drop at body.now)) }
 {
-    let mut text = [0u8; Entries::LONGEST];
-    let n = text_quoted::put_quoted(body, at, &mut text, 0);
-    if n > Entries::LONGEST {
-        return is_long_quoted_line(own, ends, body, at);
+    if let Some(listed) = is_quoted_line_within::<{ Entries::LONGEST }>(lines, body, at) {
+        return listed;
     }
-    is_spelled_line(own, ends, &text[..n])
+    if let Some(listed) = is_quoted_line_within::<UNSPELLED>(lines, body, at) {
+        return listed;
+    }
+    false
 }
 
 fn own_if(listed: bool) -> Own
@@ -78,31 +81,41 @@ fn own_if(listed: bool) -> Own
     if listed { Own::Ours } else { Own::Others }
 }
 
-// Whose the identifier of a body is, by lines that end at these places. Any places are taken for ends.
-pub fn whose_among(own: &[u8], ends: &[usize], body: &[u8]) -> Own
-    ensures { result ≡ own_of_spelled (cut_at own.now 0 ends.now) (identifier body.now) }
+// Whose the identifier of a body is, by the lines of a list.
+pub fn whose_among(lines: &Lines<'_>, body: &[u8]) -> Own
+    ensures { result ≡ own_of_spelled (lines_in lines.now) (identifier body.now) }
 {
     let Identifier::Readable { start, end, quoted } = identifier::identify(body) else {
         return Own::Unreadable;
     };
     if quoted {
-        return own_if(is_quoted_line(own, ends, body, start));
+        return own_if(is_quoted_line(lines, body, start));
     }
-    own_if(is_spelled_line(own, ends, &body[start..end]))
+    own_if(is_spelled_line(lines, &body[start..end]))
 }
 
-// Whose the identifier of a body is, by a list as it is compared. Any bytes are taken for one: so many lines at a time as a list has entries.
+// Whose the identifier of a body is, by a list as it is compared. Any bytes are taken for one: so many lines at a time as a list has entries. Where the next
+// of them start is told by those before, so there is no range to go over.
 pub fn whose_spelled(own: &[u8], body: &[u8]) -> Own
     ensures { result ≡ own_of_spelled (lines_of own.now) (identifier body.now) }
 {
     let mut at: usize = 0;
     loop {
+        let rest = &own[at..];
         let mut ends = [0usize; Entries::ENTRIES];
-        let n = ownlist_lines::ends::line_ends(&own[at..], &mut ends);
+        let n = ownlist_lines::ends::line_ends(rest, &mut ends);
         if n <= Entries::ENTRIES {
-            return whose_among(&own[at..], &ends[..n], body);
+            let lines = Lines {
+                own: rest,
+                ends: &ends[..n],
+            };
+            return whose_among(&lines, body);
         }
-        match whose_among(&own[at..], &ends, body) {
+        let lines = Lines {
+            own: rest,
+            ends: &ends,
+        };
+        match whose_among(&lines, body) {
             Own::Ours => {
                 return Own::Ours;
             }

@@ -80,7 +80,7 @@ pub enum Checked {
     Bad { place: usize },
 }
 
-// Whether a list is good, or where its first bad entry starts.
+// Whether a list is good, or where its first bad entry starts. The walk goes on from what it reads, so there is no range to go over.
 pub fn check_list(s: &[u8]) -> Checked
     ensures { result ≡ checked_of (own_list s.now) }
 {

@@ -9,17 +9,17 @@ use lexis_rules::Class;
 mod utf8;
 mod visible;
 
-// The end of the text of an entry: each turn passes a run of visible bytes, and then a sequence of UTF-8.
+// The end of the text of an entry: each turn passes a run of visible bytes, and then a sequence of UTF-8, as far as these reach, so there is no range to
+// go over.
 fn text_from(s: &[u8], at: usize) -> usize
     ensures { result ≡ at + entry_text (drop at s.now) }
 {
     let mut i = at;
     loop {
         let e = lexis_classes::run_end(s, i, Class::Visible);
-        let n = utf8::sequence_at(s, e);
-        if n == 0 {
+        let Some(n) = utf8::sequence_at(s, e) else {
             return e;
-        }
+        };
         i = e + n;
     }
 }

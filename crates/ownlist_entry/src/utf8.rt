@@ -1,5 +1,5 @@
 // The byte sequences of UTF-8 from 128 up (RFC 3629, section 4).
-ghost use Rattle.std.specs.Prelude.{◌≡◌, ◌||◌, leb, get_or, drop};
+ghost use Rattle.std.specs.Prelude.{◌≡◌, ◌≢◌, ◌||◌, leb, get_or, drop, MatchOption};
 ghost use Rattle.base_readers.specs.Texts.{within};
 ghost use Rattle.ownlist_rules.specs.Utf8.{lead, second, sequence};
 
@@ -13,20 +13,20 @@ fn is_from(a: u8, b: u8, x: u8) -> bool
     x <= b
 }
 
-// How many bytes a sequence has that starts with a byte; 0 where none does.
-fn lead(a: u8) -> usize
-    ensures { result ≡ lead a }
+// How many bytes a sequence has that starts with a byte, if one does.
+fn lead(a: u8) -> Option<usize>
+    ensures { MatchOption result (lead a ≡ 0) (λ n. (n ≡ lead a) × (n ≢ 0)) }
 {
     if is_from(0xC2, 0xDF, a) {
-        return 2;
+        return Some(2);
     }
     if is_from(0xE0, 0xEF, a) {
-        return 3;
+        return Some(3);
     }
     if is_from(0xF0, 0xF4, a) {
-        return 4;
+        return Some(4);
     }
-    0
+    None
 }
 
 // Whether b may stand behind the first byte a.
@@ -58,21 +58,18 @@ fn is_further(s: &[u8], at: usize, n: usize, k: usize) -> bool
     is_from(0x80, 0xBF, base_readers::byte(s, at, k))
 }
 
-// How many bytes the sequence at a place has; 0 where there is none.
-pub fn sequence_at(s: &[u8], at: usize) -> usize
-    ensures { result ≡ sequence (drop at s.now) }
+// How many bytes the sequence at a place has, if one stands there.
+pub fn sequence_at(s: &[u8], at: usize) -> Option<usize>
+    ensures { MatchOption result (sequence (drop at s.now) ≡ 0) (λ n. (n ≡ sequence (drop at s.now)) × (n ≢ 0)) }
 {
     let a = base_readers::byte(s, at, 0);
-    let n = lead(a);
-    if n == 0 {
-        return 0;
-    }
+    let n = lead(a)?;
     if is_second(a, base_readers::byte(s, at, 1)) {
         if is_further(s, at, n, 2) {
             if is_further(s, at, n, 3) {
-                return n;
+                return Some(n);
             }
         }
     }
-    0
+    None
 }

@@ -1,70 +1,30 @@
 // Runs of visible bytes, 33 to 126.
-ghost use Rattle.std.specs.Prelude.{◌≡◌, true, false, ◌+◌, ◌≤◌, length, drop};
-ghost use Rattle.base_readers.specs.Places.{Reaches};
+ghost use Rattle.std.specs.Prelude.{◌≡◌, ◌+◌, drop};
 ghost use Rattle.lexis_rules.specs.Bytes.{in_class};
+ghost use Rattle.lexis_rules.specs.declared.Class.TheVariants.{Visible};
 ghost use Rattle.ownlist_rules.specs.OwnList.{visible};
 
-use lexis_rules::Class;
+use base_runs::ByteTest;
 
-// From 33 to 126.
-fn is_visible(b: u8) -> bool
-    ensures { result ≡ in_class Class.Visible b }
-{
-    if b < 33 {
-        return false;
+// From 33 to 126. Where a byte may not be one both tests are made, so that many bytes can be tested at once.
+#[derive(Drop)]
+struct VisibleByte;
+
+impl ByteTest for VisibleByte {
+    ghost passes = { λ t. in_class Visible };
+
+    fn passes(&self, b: u8) -> bool {
+        33 <= b && b <= 126
     }
-    b <= 126
-}
 
-// Whether a byte is not visible. Both tests are made, so that many bytes can be tested at once.
-fn is_other(b: u8) -> bool
-    ensures { result ≡ false → in_class Class.Visible b ≡ true }
-{
-    (b < 33) | (b > 126)
-}
-
-// Whether one of n bytes is not visible, in the same way as `has_end` of `block`.
-fn has_other(s: &[u8], at: usize, n: usize) -> bool
-    requires { at + n ≤ length s.now }
-    ensures { result ≡ false → Reaches visible s.now at (at + n) }
-{
-    let mut hit = false;
-    let mut j: usize = 0;
-    while j < n {
-        hit = hit | is_other(s[at + j]);
-        j += 1;
+    fn may_fail(&self, b: u8) -> bool {
+        (b < 33) | (b > 126)
     }
-    hit
-}
-
-// The end of a run of visible bytes: a byte at a time.
-fn visible_near(s: &[u8], at: usize) -> usize
-    ensures { result ≡ at + visible (drop at s.now) }
-{
-    let mut i = at;
-    while i < s.len() {
-        if is_visible(s[i]) {
-            i += 1;
-        } else {
-            return i;
-        }
-    }
-    i
 }
 
 // The end of a run of visible bytes: sixteen bytes at a time.
 pub fn visible_end(s: &[u8], at: usize) -> usize
     ensures { result ≡ at + visible (drop at s.now) }
 {
-    let mut i = at;
-    loop {
-        let r = base_readers::rest(s.len(), i);
-        if r < 16 {
-            return visible_near(s, i);
-        }
-        if has_other(s, i, 16) {
-            return visible_near(s, i);
-        }
-        i += 16;
-    }
+    base_runs::wide_run_end::<16, _>(s, at, &VisibleByte)
 }

@@ -1,63 +1,32 @@
 // Where the lines of our own list end.
-ghost use Rattle.std.specs.Prelude.{◌≡◌, false, ◌+◌, ◌≤◌, eqb, length, drop};
+ghost use Rattle.std.specs.Prelude.{◌≡◌, ◌+◌, drop};
 ghost use Rattle.base_sequences.specs.Stored.{Put};
-ghost use Rattle.base_readers.specs.Places.{Reaches};
-ghost use Rattle.base_readers.specs.Lines.{until_feed};
+ghost use Rattle.base_readers.specs.Lines.{feedless, until_feed};
 ghost use Rattle.ownlist_rules.specs.Ends.{ends_of};
 
-fn is_feed(b: u8) -> bool
-    ensures { result ≡ eqb b 10 }
-{
-    b == b'\n'
-}
+use base_runs::ByteTest;
 
-// Whether one of n bytes is LF. There is no way out of the loop, so that with n a number in the call it is compiled to a few wide compares.
-fn has_feed(s: &[u8], at: usize, n: usize) -> bool
-    requires { at + n ≤ length s.now }
-    ensures { result ≡ false → Reaches until_feed s.now at (at + n) }
-{
-    let mut hit = false;
-    let mut j: usize = 0;
-    while j < n {
-        hit = hit | is_feed(s[at + j]);
-        j += 1;
-    }
-    hit
-}
+// The bytes of a line: any but LF.
+#[derive(Drop)]
+struct LineByte;
 
-// The next LF, or the end: a byte at a time.
-fn near_feed(s: &[u8], at: usize) -> usize
-    ensures { result ≡ at + until_feed (drop at s.now) }
-{
-    let mut i = at;
-    while i < s.len() {
-        if is_feed(s[i]) {
-            return i;
-        }
-        i += 1;
+impl ByteTest for LineByte {
+    ghost passes = { λ t. feedless };
+
+    fn passes(&self, b: u8) -> bool {
+        b != b'\n'
     }
-    i
 }
 
 // The next LF, or the end: sixteen bytes at a time.
 pub fn line_end(s: &[u8], at: usize) -> usize
     ensures { result ≡ at + until_feed (drop at s.now) }
 {
-    let mut i = at;
-    loop {
-        let r = base_readers::rest(s.len(), i);
-        if r < 16 {
-            return near_feed(s, i);
-        }
-        if has_feed(s, i, 16) {
-            return near_feed(s, i);
-        }
-        i += 16;
-    }
+    base_runs::wide_run_end::<16, _>(s, at, &LineByte)
 }
 
 // Stores where the lines of a list as it is compared end, as many as there is room for, and returns how many lines there are. Any bytes are taken
-// for such a list: a line is what stands before an LF, or before the end.
+// for such a list: a line is what stands before an LF, or before the end. A line is as long as it is read to be, so there is no range to go over.
 pub fn line_ends(own: &[u8], ends: &mut [usize]) -> usize
     ensures { Put ends.old 0 (ends_of own.now) ends.new result }
 {

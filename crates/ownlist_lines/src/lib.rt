@@ -1,24 +1,19 @@
 // Whether a text is one of the lines of our own list.
 #![tactic(auto)]
 
-ghost use Rattle.std.specs.Prelude.{◌≡◌, ◌≤◌, ◌<◌, min, length, get_or};
+ghost use Rattle.std.specs.Prelude.{◌≡◌, ◌≤◌, length};
 ghost use Rattle.base_sequences.specs.Spans.{span};
 ghost use Rattle.lexis_rules.specs.Bytes.{alike};
 ghost use Rattle.ownlist_rules.specs.Spelled.{among_lines};
-ghost use Rattle.ownlist_rules.specs.Ends.{cut_at};
+ghost use Rattle.ownlist_lines.specs.Lines.{lines_in};
 
 pub mod ends;
 
-// The end of the line with a number, at most the end of the bytes.
-fn end_at(own: &[u8], ends: &[usize], k: usize) -> usize
-    requires { k < length ends.now }
-    ensures { result ≡ min (get_or ends.now k 0) (length own.now) }
-{
-    let e = ends[k];
-    if e < own.len() {
-        return e;
-    }
-    own.len()
+// A list as it is compared, with the places where its lines end. Any places are taken for ends.
+#[derive(Clone, Copy)]
+pub struct Lines<'a> {
+    pub own: &'a [u8],
+    pub ends: &'a [usize],
 }
 
 // Whether a text equals the bytes from a up to e but for ASCII case. The lengths are compared first: most lines have another one.
@@ -35,19 +30,18 @@ fn is_span(own: &[u8], a: usize, e: usize, text: &[u8]) -> bool
     text_compare::same_text(&own[a..e], text)
 }
 
-// Whether a text equals a line but for ASCII case, where the lines end at these places. Any places are taken for ends.
-pub fn is_line(own: &[u8], ends: &[usize], text: &[u8]) -> bool
-    ensures { result ≡ among_lines (cut_at own.now 0 ends.now) text.now }
+// Whether a text equals a line but for ASCII case.
+pub fn is_line(lines: &Lines<'_>, text: &[u8]) -> bool
+    ensures { result ≡ among_lines (lines_in lines.now) text.now }
 {
+    let own = lines.own;
     let mut at: usize = 0;
-    let mut k: usize = 0;
-    while k < ends.len() {
-        let e = end_at(own, ends, k);
+    for &end in lines.ends {
+        let e = end.min(own.len());
         if is_span(own, at, e, text) {
             return true;
         }
         at = e + 1; // behind the LF
-        k += 1;
     }
     false
 }

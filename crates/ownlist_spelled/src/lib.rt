@@ -27,7 +27,8 @@ fn put_entry(e: &[u8], out: &mut [u8], to: usize) -> usize
     n + 1
 }
 
-// Writes a list as it is compared: the spelling of each entry and LF, up to the first bad entry.
+// Writes a list as it is compared: the spelling of each entry and LF, up to the first bad entry. The walk goes on from what it reads, so there is no range
+// to go over.
 pub fn spell_list(list: &[u8], out: &mut [u8]) -> usize
     ensures { Put out.old 0 (spelled_list (own_list list.now).items) out.new result }
 {

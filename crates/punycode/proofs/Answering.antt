@@ -10,9 +10,10 @@ use Rattle.base_sequences.specs.Stored.{Put}
 use Rattle.base_sequences.proofs.Splices.{put_front}
 use Rattle.punycode_rules.specs.Unicode.{utf8s}
 use Rattle.punycode_rules.specs.Labels.{decoded, spelling, spelling_limit}
+use Rattle.std.specs.Prelude.{Result, Ok, Err}
 use Rattle.punycode.specs.declared.Decoded.TheVariants as answer
-use Rattle.punycode.specs.declared.decoding.Points.{Points}
-use Rattle.punycode.specs.declared.decoding.Points.TheVariants.{Read, Failed, Long}
+use Rattle.punycode.specs.declared.decoding.NoPoints.{NoPoints}
+use Rattle.punycode.specs.declared.decoding.NoPoints.TheVariants.{Failed, Long}
 use Rattle.punycode.specs.Answers.{decode_answer, decode_stored, spell_answer, spell_stored}
 use Rattle.punycode.specs.Internal.{Tells, Spelt}
 
@@ -27,20 +28,18 @@ module _ (label out : List ℕ) (h : length label ≤ spelling_limit) where
   unfolding decode_answer decode_stored
   failed e = (rw (decode_answer, le-leb (length label) spelling_limit h, e), rw (decode_stored, le-leb (length label) spelling_limit h, e))
 
-  module _ (points : List ℕ) (d : Points) (t : Tells label points d) where
-    pub decode-failed : d ≡ Failed → (answer.Failed ≡ decode_answer label) × (out ≡ decode_stored label out)
-    decode-failed e = failed (rw e at t)
-
+  module _ (points : List ℕ) (d : Result ℕ NoPoints) (t : Tells label points d) where
     -- there is room for the code points of such a label
-    pub decode-never : d ≡ Long → (answer.Failed ≡ decode_answer label) × (out ≡ decode_stored label out)
-    decode-never e = let l : Tells label points Long = (rw e at t) in absurd (omega (arith, l.0))
+    pub decode-failed : (f : NoPoints) → d ≡ Err f → (answer.Failed ≡ decode_answer label) × (out ≡ decode_stored label out)
+    decode-failed Failed e = failed (rw e at t)
+    decode-failed Long e = let l : Tells label points (Err Long) = (rw e at t) in absurd (omega (arith, l.0))
 
-    pub decode-text : (k : ℕ) → d ≡ Read k → (new : List ℕ) (n : ℕ) → Put out 0 (utf8s (take k points)) new n
+    pub decode-text : (k : ℕ) → d ≡ Ok k → (u : List ℕ) → u ≡ take k points → (new : List ℕ) (n : ℕ) → Put out 0 (utf8s u) new n
         → (answer.Text n ≡ decode_answer label) × (new ≡ decode_stored label out)
     unfolding decode_answer decode_stored
-    decode-text k e new n p =
-        let l : Tells label points (Read k) = (rw e at t) in
-        (rw (decode_answer, le-leb (length label) spelling_limit h, l.1, p.count), rw (decode_stored, le-leb (length label) spelling_limit h, l.1) p.bytes)
+    decode-text k e u q new n p =
+        let l : Tells label points (Ok k) = (rw e at t) in
+        (rw (decode_answer, le-leb (length label) spelling_limit h, l.1, ← q, p.count), rw (decode_stored, le-leb (length label) spelling_limit h, l.1, ← q) p.bytes)
 
 -- ==== a text
 

@@ -1,17 +1,17 @@
 -- How large the variables of the code are: no sum or product overflows, and what holds of them before a digit holds after it.
-use Prim.Native.Nat.{ℕ, ◌+◌, ◌-◌, ◌*◌, ◌/◌, ◌%◌, ◌≤◌, ◌<◌}
-use native.Mathlib.Nat.{mul-le-mul_right, mul-le-mul_left, mod-lt, le-div_iff_mul-le}
+use Prim.Native.Nat.{ℕ, ◌+◌, ◌-◌, ◌*◌, ◌%◌, ◌≤◌, ◌<◌}
+use native.Mathlib.Nat.{mul-le-mul_right, mul-le-mul_left, mod-lt}
 use native.Mathlib.Omega.{arith}
 use lib.Dec.{eqb}
 use Rattle.punycode.specs.declared.numbers.Numbers.{Numbers}
 use Rattle.punycode_rules.specs.Punycode.{threshold}
 use Rattle.punycode_rules.specs.Labels.{spelling_limit}
-use Rattle.punycode.specs.Internal.{limit, last_of, more_of, Small}
+use Rattle.punycode.specs.Internal.{limit, fresh_numbers, last_of, more_of, Small}
 use Rattle.punycode_laws.proofs.Digits.{threshold-bounds}
 use Rattle.punycode_laws.proofs.Adapting.{adapt-bound}
 
 -- at a start
-pub small-start : Small (record { n = 128; i = 0; bias = 72; old = 0; w = 1; k = 36 })
+pub small-start : Small fresh_numbers
 small-start = omega arith
 
 module _ (q : Numbers) (s : Small q) (d : ℕ) (h : d < 36) where
@@ -65,10 +65,3 @@ module _ (q : Numbers) (s : Small q) (d : ℕ) (h : d < 36) where
           k = omega arith;
           bias = omega (arith, adapt-bound (q.i + d * q.w - q.old) (count + 1) (eqb q.old 0));
         }
-
--- where i reaches the limit the next code point is above 10FFFF
-pub limit-high : (i count : ℕ) → count ≤ spelling_limit → limit ≤ i → 1114112 ≤ i / (count + 1)
-limit-high i count l h = (le-div_iff_mul-le {k = count + 1} (omega arith)).1 (omega (arith, mul-le-mul_left 1114112 (points count l)))
-  where
-    points : (count : ℕ) → count ≤ spelling_limit → count + 1 ≤ 1021
-    points count l = omega arith

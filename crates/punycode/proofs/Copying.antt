@@ -10,8 +10,9 @@ use lib.ListN.{length, get_or, set, take, drop, drop_of_length-le, length-set}
 use lib.Seq.{drop-cons, take-suc-set, take-suc, length-take-le}
 use borrow.Author.Tests.{eq-eqb, ne_eqb, lt-ltb, le-ltb}
 use Rattle.base_sequences.proofs.Booleans.{no_true}
-use Rattle.punycode.specs.declared.decoding.Points.{Points}
-use Rattle.punycode.specs.declared.decoding.Points.TheVariants.{Read, Failed, Long}
+use Rattle.std.specs.Prelude.{Result, Ok, Err}
+use Rattle.punycode.specs.declared.decoding.NoPoints.{NoPoints}
+use Rattle.punycode.specs.declared.decoding.NoPoints.TheVariants.{Failed, Long}
 use Rattle.punycode_rules.specs.Punycode.{start, before_last, basic, consumed}
 use Rattle.punycode_rules.specs.Labels.{decoded, spelling_limit}
 use Rattle.punycode.specs.Internal.{Opened, Ends, Copied, Tells}
@@ -84,7 +85,7 @@ module _ (s : List ℕ) (b : ℕ) (old out : List ℕ) (j : ℕ) (w : Copying s 
 -- ==== the whole
 
 module _ (s : List ℕ) (b : ℕ) (q : b ≡ before_last 0 0 s) where
-  pub basics-long : spelling_limit < b → Tells s [] Long
+  pub basics-long : spelling_limit < b → Tells s [] (Err Long)
   basics-long h =
       (omega (arith, before-inside s), λ u e. go u e (basic (take b s)) refl)
     where
@@ -95,7 +96,7 @@ module _ (s : List ℕ) (b : ℕ) (q : b ≡ before_last 0 0 s) where
       go u e false t = absurd (let n : none ≡ some u = sym (decoded-no s b q t) ∙ e in let z : ◌≡◌ {A = ℕ} 0 1 = cc in omega arith)
 
   module _ (out : List ℕ) (all : Bool) (k : Copied s b out all) where
-    pub basics-not : all ≡ false → Tells s [] Failed
+    pub basics-not : all ≡ false → Tells s [] (Err Failed)
     basics-not f = decoded-no s b q (sym k.tells ∙ f)
 
     module _ (t : all ≡ true) where
@@ -123,10 +124,10 @@ module _ (s : List ℕ) (b : ℕ) (q : b ≡ before_last 0 0 s) where
           high zero l = omega arith
           high (suc n) l = omega arith
 
-      pub basics-then : (at : ℕ) → at ≡ consumed b → (new : List ℕ) (r : Points) → Ends s at (take b out) new r → Tells s new r
+      pub basics-then : (at : ℕ) → at ≡ consumed b → (new : List ℕ) (r : Result ℕ NoPoints) → Ends s at (take b out) new r → Tells s new r
       basics-then at e new r g = go r (rw (e, k.points t) at g)
         where
-          go : (r : Points) → Ends s (consumed b) (take b s) new r → Tells s new r
-          go (Read n) h = (h.0, decoded-yes s b q good ∙ h.1)
-          go Failed h = decoded-yes s b q good ∙ h
-          go Long h = (h.0, λ u f. h.1 u (sym (decoded-yes s b q good) ∙ f))
+          go : (r : Result ℕ NoPoints) → Ends s (consumed b) (take b s) new r → Tells s new r
+          go (Ok n) h = (h.0, decoded-yes s b q good ∙ h.1)
+          go (Err Failed) h = decoded-yes s b q good ∙ h
+          go (Err Long) h = (h.0, λ u f. h.1 u (sym (decoded-yes s b q good) ∙ f))

@@ -2,66 +2,33 @@
 use Prim.Native.Nat.{ℕ, ◌+◌, ◌-◌, ◌*◌, ◌≤◌, ◌<◌}
 use native.Mathlib.Omega.{arith}
 use mathlib.Core.Path.{◌≡◌, refl, sym, ap, ◌∙◌}
-use mathlib.Core.Bool.{Bool, true, false, ◌||◌}
+use mathlib.Core.Bool.{Bool, true, false}
 use mathlib.Core.List.{List, [], ◌∷◌, append-nil}
 use mathlib.Core.Option.{Option, none, some}
 use lib.Dec.{eqb, leb}
-use lib.ListN.{length, get_or, set, take, drop, length-append, length-take, length-drop}
+use lib.ListN.{length, set, take, drop, length-append, length-take, length-drop}
 use lib.Seq.{take_all}
 use borrow.Author.Tests.{leb-true, leb-false, eqb-true}
 use Rattle.base_sequences.specs.Stored.{Put}
 use Rattle.base_sequences.proofs.Splices.{Left, left-start, left_step, left-done, left-byte, put-wrote}
-use Rattle.base_readers.specs.Texts.{one_of}
 use Rattle.base_readers.specs.Readers.{run}
-use Rattle.punycode.specs.declared.decoding.Points.{Points}
-use Rattle.punycode.specs.declared.decoding.Points.TheVariants.{Read, Failed, Long}
+use Rattle.std.specs.Prelude.{Result, Ok, Err}
+use Rattle.punycode.specs.declared.decoding.NoPoints.{NoPoints}
+use Rattle.punycode.specs.declared.decoding.NoPoints.TheVariants.{Failed, Long}
 use Rattle.punycode_rules.specs.Unicode.{scalars, utf8s}
 use Rattle.punycode_rules.specs.Labels.{decoded, prefixed, spelled, spelling, spelling_limit, in_label}
 use Rattle.punycode.specs.Internal.{Tells, Spells, Spelt}
 use Rattle.punycode_laws.proofs.Encoding.{utf8s-bounds}
 use Rattle.punycode_laws.proofs.Spelling.{spelled-plain, spelled-failed, spelled-some, scalars-of, end_low, here-last, here-more}
 
--- ==== the prefix
-
-pub either-yes : (b x y : ℕ) (p : Bool) → p ≡ eqb b x → p ≡ true → true ≡ one_of (x ∷ y ∷ []) b
-unfolding one_of
-either-yes b x y p e t = rw (← e, t)
-
-pub either-no : (b x y : ℕ) (p q : Bool) → p ≡ eqb b x → p ≡ false → q ≡ eqb b y → q ≡ one_of (x ∷ y ∷ []) b
-unfolding one_of
-either-no b x y p q e t f = rw (← e, t, ← f) (sym (none_more q))
-  where
-    none_more : (t : Bool) → (t || false) ≡ t
-    none_more true = refl
-    none_more false = refl
-
-module _ (l : List ℕ) (a : Bool) (e : a ≡ one_of (120 ∷ 88 ∷ []) (get_or l 0 0)) where
-  pub prefix-1 : a ≡ false → false ≡ prefixed l
-  unfolding prefixed
-  prefix-1 t = rw (← e, t)
-
-  module _ (t : a ≡ true) (b : Bool) (f : b ≡ one_of (110 ∷ 78 ∷ []) (get_or l 1 0)) where
-    pub prefix-2 : b ≡ false → false ≡ prefixed l
-    unfolding prefixed
-    prefix-2 u = rw (← e, t, ← f, u)
-
-    module _ (u : b ≡ true) (c : Bool) (g : c ≡ eqb (get_or l 2 0) 45) where
-      pub prefix-3 : c ≡ false → false ≡ prefixed l
-      unfolding prefixed
-      prefix-3 v = rw (← e, t, ← f, u, ← g, v)
-
-      pub prefix-4 : c ≡ true → (d : Bool) → d ≡ eqb (get_or l 3 0) 45 → d ≡ prefixed l
-      unfolding prefixed
-      prefix-4 v d h = rw (← e, t, ← f, u, ← g, v) h
-
 -- ==== a label
 
 -- what is told of the rest of a label, behind its prefix
-pub told : (l points : List ℕ) (d d' : Points) → Tells (take (length l - 4) (drop 4 l)) points d → d ≡ d' → Tells (drop 4 l) points d'
+pub told : (l points : List ℕ) (d d' : Result ℕ NoPoints) → Tells (take (length l - 4) (drop 4 l)) points d → d ≡ d' → Tells (drop 4 l) points d'
 told l points d d' t e = let w : take (length l - 4) (drop 4 l) ≡ drop 4 l = take_all (length l - 4) (drop 4 l) (omega (arith, length-drop 4 l)) in rw (e, w) at t
 
-pub told-points : (xs points : List ℕ) (k : ℕ) → Tells xs points (Read k) → (k ≤ spelling_limit) × (scalars (take k points) ≡ true)
-told-points xs points k t = (t.0, scalars-of xs (take k points) t.1)
+pub told-points : (xs points : List ℕ) (k : ℕ) → Tells xs points (Ok k) → (u : List ℕ) → u ≡ take k points → (length u ≤ spelling_limit) × (scalars u ≡ true)
+told-points xs points k t u q = rw q ((omega (arith, t.0, length-take k points)), scalars-of xs (take k points) t.1)
 
 module _ (old : List ℕ) (at : ℕ) (l : List ℕ) where
   pub plain-put : (new : List ℕ) (n : ℕ) → length l ≤ spelling_limit → Put old at l new n → Spells old at l new n
@@ -74,17 +41,19 @@ module _ (old : List ℕ) (at : ℕ) (l : List ℕ) where
   label-plain new n h s = rw (spelled-plain l h) s
 
   module _ (h : prefixed l ≡ true) (points : List ℕ) where
-    pub label-failed : (new : List ℕ) (n : ℕ) → Tells (drop 4 l) points Failed → Spells old at l new n → Spells old at (spelled l) new n
+    pub label-failed : (new : List ℕ) (n : ℕ) → Tells (drop 4 l) points (Err Failed) → Spells old at l new n → Spells old at (spelled l) new n
     label-failed new n t s = rw (spelled-failed l h t) s
 
-    pub label-text : (new : List ℕ) (n k : ℕ) → Tells (drop 4 l) points (Read k) → Put old at (utf8s (take k points)) new n → Spells old at (spelled l) new n
-    label-text new n k t p =
+    pub label-text : (new : List ℕ) (n k : ℕ) → Tells (drop 4 l) points (Ok k) → (u : List ℕ) → u ≡ take k points → Put old at (utf8s u) new n
+        → Spells old at (spelled l) new n
+    label-text new n k t u q p' =
+        let p : Put old at (utf8s (take k points)) new n = (rw q at p') in
         let b : length (utf8s (take k points)) ≤ 4 * length (take k points) = (utf8s-bounds (take k points)).1 in
         let c : length (take k points) ≤ k = omega (arith, length-take k points) in
         rw (spelled-some l h (take k points) t.1)
         (record { bound = omega (arith, p.count, t.0); fits = λ g. p; over = λ g. omega (arith, p.count) })
 
-    pub label-long : Tells (drop 4 l) points Long → Spells old at (spelled l) old (spelling_limit + 1)
+    pub label-long : Tells (drop 4 l) points (Err Long) → Spells old at (spelled l) old (spelling_limit + 1)
     label-long t = record { bound = omega arith; fits = λ g. absurd (omega arith); over = λ g. go (decoded (drop 4 l)) refl }
       where
         go : (o : Option (List ℕ)) → decoded (drop 4 l) ≡ o → spelling_limit < length (spelled l)

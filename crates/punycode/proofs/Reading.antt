@@ -2,18 +2,19 @@
 use Prim.Native.Nat.{ℕ, suc, ◌+◌, ◌-◌, ◌*◌, ◌%◌, ◌≤◌, ◌<◌}
 use native.Mathlib.Numerals.{add-one}
 use native.Mathlib.Omega.{arith}
-use mathlib.Core.Path.{◌≡◌, refl, sym, ap, ◌∙◌}
+use mathlib.Core.Path.{◌≡◌, sym, ap, ◌∙◌}
 use mathlib.Core.Bool.{true, false}
 use mathlib.Core.List.{List, [], ◌∷◌}
 use mathlib.Core.Option.{Option}
 use lib.ListN.{length, get_or, take, drop, drop_of_length-le}
 use lib.Seq.{drop-cons, length-take-le}
+use Rattle.std.specs.Prelude.{Ok, Err}
 use Rattle.punycode.specs.declared.numbers.Numbers.{Numbers}
-use Rattle.punycode.specs.declared.decoding.Points.TheVariants.{Read, Failed, Long}
+use Rattle.punycode.specs.declared.decoding.NoPoints.TheVariants.{Failed, Long}
 use Rattle.punycode_rules.specs.Punycode.{start, insert, last, digit_of, threshold, numbers}
 use Rattle.punycode_rules.specs.Unicode.{scalar, scalars}
 use Rattle.punycode_rules.specs.Labels.{kept, spelling_limit}
-use Rattle.punycode.specs.Internal.{limit, state_of, last_of, more_of, Small, Inserted, Opened, Ends}
+use Rattle.punycode.specs.Internal.{limit, fresh_numbers, state_of, last_of, more_of, Small, Inserted, Opened, Ends}
 use Rattle.punycode_laws.proofs.Digits.{scalar_below}
 use Rattle.punycode.proofs.Bounds.{small-start, small-more, small-last, place_in}
 use Rattle.punycode_laws.proofs.Decoding.{numbers-end, numbers-cut, numbers-none, numbers-last, numbers_more, scalars-good, kept-good, kept-none, last-bad, digit-fails, counted, kept-some}
@@ -29,10 +30,10 @@ pub record Reading (s : List ℕ) (at : ℕ) (b out : List ℕ) (q : Numbers) (p
   pub place : p ≤ length s
   pub small : Small q
 
-pub reading-start : (s : List ℕ) (at : ℕ) (out : List ℕ) (basics : ℕ) → Opened s at out basics
-    → Reading s at (take basics out) out (record { n = 128; i = 0; bias = 72; old = 0; w = 1; k = 36 }) at basics
-reading-start s at out basics o =
-    record { same = refl; good = o.good; long = o.long; fits = o.fits; enough = o.enough; place = o.place; small = small-start }
+pub reading-start : (s : List ℕ) (at : ℕ) (out : List ℕ) (basics : ℕ) → Opened s at out basics → (q : Numbers) → q ≡ fresh_numbers
+    → Reading s at (take basics out) out q at basics
+reading-start s at out basics o q e =
+    record { same = rw e; good = o.good; long = o.long; fits = o.fits; enough = o.enough; place = o.place; small = rw e small-start }
 
 -- the state after a digit that ends its number
 last-same : (q : Numbers) (o : List ℕ) (d count : ℕ) (xs : List ℕ) → length o ≡ count → (q' : Numbers) → q' ≡ last_of q d count
@@ -50,10 +51,10 @@ module _ (s : List ℕ) (at : ℕ) (b out : List ℕ) (q : Numbers) (p count : �
   ended : length s ≤ p → (o : Option (List ℕ)) → kept (numbers (state_of q (take count out)) []) ≡ o → kept (numbers (start b) (drop at s)) ≡ o
   ended h o e = sym r.same ∙ (ap (λ (l : List ℕ). kept (numbers (state_of q (take count out)) l)) (drop_of_length-le s h) ∙ e)
 
-  pub reads-text : length s ≤ p → q.k ≡ 36 → Ends s at b out (Read count)
+  pub reads-text : length s ≤ p → q.k ≡ 36 → Ends s at b out (Ok count)
   reads-text h k = (r.enough, ended h _ (ap kept (numbers-end (state_of q (take count out)) k) ∙ kept-good (take count out) r.good))
 
-  pub reads-cut : length s ≤ p → (q.k ≡ 36 → ⊥) → Ends s at b out Failed
+  pub reads-cut : length s ≤ p → (q.k ≡ 36 → ⊥) → Ends s at b out (Err Failed)
   reads-cut h k = ended h _ (ap kept (numbers-cut (state_of q (take count out)) k) ∙ kept-none)
 
   -- ==== at a digit
@@ -65,11 +66,11 @@ module _ (s : List ℕ) (at : ℕ) (b out : List ℕ) (q : Numbers) (p count : �
     here : kept (numbers (state_of q (take count out)) (get_or s p 0 ∷ drop (suc p) s)) ≡ kept (numbers (start b) (drop at s))
     here = ap (λ (l : List ℕ). kept (numbers (state_of q (take count out)) l)) (sym (drop-cons {A = ℕ} s p 0 h)) ∙ r.same
 
-    pub reads_none : 36 ≤ d → Ends s at b out Failed
+    pub reads_none : 36 ≤ d → Ends s at b out (Err Failed)
     reads_none l = sym here ∙ (ap kept (numbers-none (state_of q (take count out)) (get_or s p 0) (drop (suc p) s) (rw (← e) l)) ∙ kept-none)
 
     module _ (l : d < 36) where
-      pub reads-large : limit ≤ q.i + d * q.w → Ends s at b out Failed
+      pub reads-large : limit ≤ q.i + d * q.w → Ends s at b out (Err Failed)
       reads-large g =
           sym here
           ∙ digit-fails (get_or s p 0) (drop (suc p) s) (state_of q (take count out)) r.small.first
@@ -92,7 +93,7 @@ module _ (s : List ℕ) (at : ℕ) (b out : List ℕ) (q : Numbers) (p count : �
           then : kept (numbers (last (state_of q (take count out)) d) (drop (suc p) s)) ≡ kept (numbers (start b) (drop at s))
           then = ap kept (rw e (sym (numbers-last (state_of q (take count out)) (get_or s p 0) (drop (suc p) s) (rw (← e) l) (rw (← e) t)))) ∙ here
 
-          pub reads-long : length out ≤ count → Ends s at b out Long
+          pub reads-long : length out ≤ count → Ends s at b out (Err Long)
           reads-long w = (
             omega (arith, r.long, r.fits),
             λ u f. (let c = (counted (drop (suc p) s) (last (state_of q (take count out)) d)).least u (kept-some _ u (then ∙ f)) in
@@ -100,7 +101,7 @@ module _ (s : List ℕ) (at : ℕ) (b out : List ℕ) (q : Numbers) (p count : �
           )
 
           module _ (q' : Numbers) (f : q' ≡ last_of q d count) where
-            pub reads-bad : scalar q'.n ≡ false → Ends s at b out Failed
+            pub reads-bad : scalar q'.n ≡ false → Ends s at b out (Err Failed)
             reads-bad z = sym then ∙ last-bad (drop (suc p) s) (state_of q (take count out)) d (rw n (rw f at z))
 
             pub reads-place : q'.i - 1 ≤ count

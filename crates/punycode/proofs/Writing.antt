@@ -1,11 +1,11 @@
 -- Code points written in UTF-8.
-use Prim.Native.Nat.{ℕ, suc, ◌+◌, ◌-◌, ◌*◌, ◌/◌, ◌%◌, ◌≤◌, ◌<◌}
+use Prim.Native.Nat.{ℕ, suc, ◌+◌, ◌*◌, ◌/◌, ◌%◌, ◌≤◌, ◌<◌}
 use native.Mathlib.Numerals.{add-one, add-two, add-three}
 use native.Mathlib.Omega.{arith}
 use mathlib.Core.Path.{◌≡◌, refl, ap, ◌∙◌}
 use mathlib.Core.Bool.{true}
 use mathlib.Core.List.{List, [], ◌∷◌}
-use lib.ListN.{length, get_or, set, take, drop}
+use lib.ListN.{length, get_or, set, drop, drop_of_length-le}
 use lib.Seq.{drop-cons}
 use borrow.Author.Tests.{lt-ltb, le-ltb}
 use Rattle.base_sequences.specs.Stored.{Put}
@@ -41,34 +41,31 @@ module _ (x : ℕ) (o : List ℕ) (to : ℕ) where
 
 -- ==== the loop
 
-pub record Pointed (points : List ℕ) (count : ℕ) (old : List ℕ) (to : ℕ) (out : List ℕ) (j n : ℕ) : Type 0 where
-  pub left : Left old to (utf8s (take count points)) out (to + n) (utf8s (take (count - j) (drop j points)))
-  pub good : scalars (take (count - j) (drop j points)) ≡ true
+pub record Pointed (points old : List ℕ) (to : ℕ) (out : List ℕ) (j n : ℕ) : Type 0 where
+  pub left : Left old to (utf8s points) out (to + n) (utf8s (drop j points))
+  pub good : scalars (drop j points) ≡ true
   pub bound : n ≤ 4 * j
-  pub low : j ≤ count
 
-pub pointed-start : (points : List ℕ) (count : ℕ) (old : List ℕ) (to : ℕ) → scalars (take count points) ≡ true → Pointed points count old to old 0 0
-pointed-start points count old to h =
-    let z : count - 0 ≡ count = omega arith in
+pub pointed-start : (points old : List ℕ) (to : ℕ) → scalars points ≡ true → Pointed points old to old 0 0
+pointed-start points old to h =
     let y : to + 0 ≡ to = omega arith in
-    record { left = rw (z, y) (left-start old to (utf8s (take count points))); good = rw z h; bound = omega arith; low = omega arith }
+    record { left = rw y (left-start old to (utf8s points)); good = h; bound = omega arith }
 
-module _ (points : List ℕ) (count : ℕ) (old : List ℕ) (to : ℕ) (out : List ℕ) (j n : ℕ) (w : Pointed points count old to out j n) where
-  pub pointed-end : count ≤ j → Put old to (utf8s (take count points)) out n
+module _ (points old : List ℕ) (to : ℕ) (out : List ℕ) (j n : ℕ) (w : Pointed points old to out j n) where
+  pub pointed-end : length points ≤ j → Put old to (utf8s points) out n
   unfolding utf8s
   pointed-end h =
-      let z : count - j ≡ 0 = omega arith in
-      let l : Left old to (utf8s (take count points)) out (to + n) [] = (rw z at w.left) in
+      let l : Left old to (utf8s points) out (to + n) [] = (rw (drop_of_length-le points h) at w.left) in
       wrote-put (left-done l refl)
 
-  module _ (h : j < count) (l : count ≤ length points) where
-    next : take (count - j) (drop j points) ≡ get_or points j 0 ∷ take (count - suc j) (drop (suc j) points)
-    next = let e : count - j ≡ suc (count - suc j) = omega arith in rw (e, drop-cons {A = ℕ} points j 0 (omega arith))
+  module _ (h : j < length points) where
+    next : drop j points ≡ get_or points j 0 ∷ drop (suc j) points
+    next = drop-cons {A = ℕ} points j 0 h
 
     pub pointed-small : get_or points j 0 < 1114112
     pointed-small = (scalars-first _ _ (rw next at w.good)).0
 
-    pub pointed-on : (out' : List ℕ) (k : ℕ) → Put out (to + n) (utf8 (get_or points j 0)) out' k → Pointed points count old to out' (j + 1) (n + k)
+    pub pointed-on : (out' : List ℕ) (k : ℕ) → Put out (to + n) (utf8 (get_or points j 0)) out' k → Pointed points old to out' (j + 1) (n + k)
     unfolding utf8s
     pointed-on out' k p =
         let y : to + n + k ≡ to + (n + k) = omega arith in
@@ -76,5 +73,4 @@ module _ (points : List ℕ) (count : ℕ) (old : List ℕ) (to : ℕ) (out : Li
           left = rw add-one (left_step {x = utf8 (get_or points j 0)} w.left (ap utf8s next) (rw y at (put-wrote p)));
           good = rw add-one (scalars-first _ _ (rw next at w.good)).1;
           bound = omega (arith, w.bound, p.count, utf8-bounds (get_or points j 0));
-          low = omega arith;
         }

@@ -2,10 +2,11 @@
 use Rattle.std.specs.Prelude.{ℕ, ◌+◌, ◌*◌, ◌≤◌, ◌<◌, ◌/◌, ◌%◌, ◌-◌, ◌≡◌, Bool, true, List, eqb, length, take, drop}
 use Rattle.std.proofs.Math.Option.{none, some}
 use Rattle.base_sequences.specs.Stored.{Put}
+use Rattle.std.specs.Prelude.{Result, Ok, Err}
 use Rattle.punycode.specs.declared.numbers.Numbers.{Numbers}
-use Rattle.punycode.specs.declared.decoding.Points.{Points}
-use Rattle.punycode.specs.declared.decoding.Points.TheVariants.{Read, Failed, Long}
-use Rattle.punycode_rules.specs.Punycode.{State, start, numbers, adapt, threshold, insert, basic, base, tmin}
+use Rattle.punycode.specs.declared.decoding.NoPoints.{NoPoints}
+use Rattle.punycode.specs.declared.decoding.NoPoints.TheVariants.{Failed, Long}
+use Rattle.punycode_rules.specs.Punycode.{State, start, numbers, adapt, threshold, insert, basic, base, tmin, initial_n, initial_bias}
 use Rattle.punycode_rules.specs.Unicode.{scalars}
 use Rattle.punycode_rules.specs.Labels.{decoded, kept, spelling_limit}
 
@@ -18,6 +19,10 @@ limit = 0x110000 * (spelling_limit + 1)
 -- the variables of RFC 3492, section 6.2, with an output
 abbrev pub state_of : Numbers → List ℕ → State
 state_of q out = record { output = out; n = q.n; i = q.i; bias = q.bias; oldi = q.old; w = q.w; k = q.k }
+
+-- before the first digit
+abbrev pub fresh_numbers : Numbers
+fresh_numbers = record { n = initial_n; i = 0; bias = initial_bias; old = 0; w = 1; k = base }
 
 -- the variables after a digit that ends its number, where there are so many code points before
 abbrev pub last_of : Numbers → ℕ → ℕ → Numbers
@@ -71,10 +76,10 @@ pub record Opened (s : List ℕ) (at : ℕ) (out : List ℕ) (basics : ℕ) : Ty
 
 -- the code points that the numbers from a place on give after the basic ones: the first `n` of the array; that there are none; or that
 -- there are none, or more than there is room for
-abbrev pub Ends : List ℕ → ℕ → List ℕ → List ℕ → Points → Type 0
-Ends s at basics out (Read n) = (n ≤ spelling_limit) × (kept (numbers (start basics) (drop at s)) ≡ some (take n out))
-Ends s at basics out Failed = kept (numbers (start basics) (drop at s)) ≡ none
-Ends s at basics out Long = (spelling_limit < length s) × ((u : List ℕ) → kept (numbers (start basics) (drop at s)) ≡ some u → spelling_limit < length u)
+abbrev pub Ends : List ℕ → ℕ → List ℕ → List ℕ → Result ℕ NoPoints → Type 0
+Ends s at basics out (Ok n) = (n ≤ spelling_limit) × (kept (numbers (start basics) (drop at s)) ≡ some (take n out))
+Ends s at basics out (Err Failed) = kept (numbers (start basics) (drop at s)) ≡ none
+Ends s at basics out (Err Long) = (spelling_limit < length s) × ((u : List ℕ) → kept (numbers (start basics) (drop at s)) ≡ some u → spelling_limit < length u)
 
 -- the first b bytes are basic and are copied, or are not all basic
 pub record Copied (s : List ℕ) (b : ℕ) (out : List ℕ) (all : Bool) : Type 0 where
@@ -82,10 +87,10 @@ pub record Copied (s : List ℕ) (b : ℕ) (out : List ℕ) (all : Bool) : Type 
   pub points : all ≡ true → take b out ≡ take b s
 
 -- the label's code points are the first `n` of the array; it has none; or it is long, and has none, or more than there is room for
-abbrev pub Tells : List ℕ → List ℕ → Points → Type 0
-Tells xs out (Read n) = (n ≤ spelling_limit) × (decoded xs ≡ some (take n out))
-Tells xs out Failed = decoded xs ≡ none
-Tells xs out Long = (spelling_limit < length xs) × ((u : List ℕ) → decoded xs ≡ some u → spelling_limit < length u)
+abbrev pub Tells : List ℕ → List ℕ → Result ℕ NoPoints → Type 0
+Tells xs out (Ok n) = (n ≤ spelling_limit) × (decoded xs ≡ some (take n out))
+Tells xs out (Err Failed) = decoded xs ≡ none
+Tells xs out (Err Long) = (spelling_limit < length xs) × ((u : List ℕ) → decoded xs ≡ some u → spelling_limit < length u)
 
 -- ==== texts as they are compared
 

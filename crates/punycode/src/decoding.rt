@@ -7,10 +7,9 @@ ghost use Rattle.punycode.specs.Internal.{Inserted, Opened, Ends, Copied, Tells}
 use super::numbers;
 use super::numbers::Numbers;
 
-// How many code points a label has; that it has none; or that it is long, and has none, or more than there is room for.
+// Why a label has no code points that can be read: it has none; or it is long, and has none, or more than there is room for.
 #[derive(Drop)]
-pub(crate) enum Points {
-    Read(usize),
+pub(crate) enum NoPoints {
     Failed,
     Long,
 }
@@ -20,57 +19,44 @@ fn insert(out: &mut [u32], count: usize, at: usize, x: u32)
     requires { (at ≤ count) × (count < length out.old) }
     ensures { Inserted out.old count at x out.new }
 {
-    let mut j = count;
-    while at < j {
-        out[j] = out[j - 1];
-        j -= 1;
-    }
+    out[at..count + 1].rotate_right(1);
     out[at] = x;
 }
 
 // Reads the numbers from a place of the input on: the first `basics` of the array are the basic code points.
-fn read_numbers(s: &[u8], at: usize, out: &mut [u32], basics: usize) -> Points
+fn read_numbers(s: &[u8], at: usize, out: &mut [u32], basics: usize) -> Result<usize, NoPoints>
     requires { Opened s.now at out.old basics }
     ensures { Ends s.now at (take basics out.old) out.new result }
 {
-    let mut q = Numbers {
-        n: Numbers::INITIAL_N,
-        i: 0,
-        bias: Numbers::INITIAL_BIAS,
-        old: 0,
-        w: 1,
-        k: Numbers::BASE,
-    };
-    let mut p = at;
+    let mut q = Numbers::fresh();
     let mut count = basics;
-    while p < s.len() {
-        let d = numbers::digit_of(numbers::wide(s[p]));
+    for p in at..s.len() {
+        let d = numbers::digit_of(s[p]);
         if d >= Numbers::BASE {
-            return Points::Failed;
+            return Err(NoPoints::Failed);
         }
-        if numbers::advanced(q, d) >= Numbers::LIMIT {
-            return Points::Failed;
+        if q.advanced(d) >= Numbers::LIMIT {
+            return Err(NoPoints::Failed);
         }
-        if d < numbers::threshold(q.k, q.bias) {
-            if count >= out.len() {
-                return Points::Long;
-            }
-            q = numbers::last(q, d, count as u64);
-            if !numbers::is_scalar(q.n) {
-                return Points::Failed;
-            }
-            insert(out, count, (q.i - 1) as usize, q.n as u32);
-            count += 1;
-            p += 1;
-        } else {
-            q = numbers::more(q, d);
-            p += 1;
+        if q.threshold() <= d {
+            q = q.more(d);
+            continue;
         }
+        if count >= out.len() {
+            return Err(NoPoints::Long);
+        }
+        q = q.last(d, count as u64);
+        if !numbers::is_scalar(q.n) {
+            return Err(NoPoints::Failed);
+        }
+        insert(out, count, (q.i - 1) as usize, q.n as u32);
+        count += 1;
     }
     if q.k == Numbers::BASE {
-        return Points::Read(count);
+        Ok(count)
+    } else {
+        Err(NoPoints::Failed)
     }
-    Points::Failed
 }
 
 // How many bytes stand before the last hyphen; 0 where there is none.
@@ -78,23 +64,12 @@ fn before_last(s: &[u8]) -> usize
     ensures { result ≡ before_last 0 0 s.now }
 {
     let mut found: usize = 0;
-    let mut p: usize = 0;
-    while p < s.len() {
+    for p in 0..s.len() {
         if s[p] == b'-' {
             found = p;
-            p += 1;
-        } else {
-            p += 1;
         }
     }
     found
-}
-
-// A byte as a code point.
-fn point_of(b: u8) -> u32
-    ensures { result ≡ b }
-{
-    b as u32
 }
 
 // Copies the first bytes to the array, if all of them are basic.
@@ -102,31 +77,27 @@ fn copy_basics(s: &[u8], b: usize, out: &mut [u32]) -> bool
     requires { (b ≤ length s.now) × (b ≤ length out.old) }
     ensures { Copied s.now b out.new result }
 {
-    let mut j: usize = 0;
-    while j < b {
+    for j in 0..b {
         if s[j] >= 128 {
             return false;
         }
-        out[j] = point_of(s[j]);
-        j += 1;
+        out[j] = u32::from(s[j]);
     }
     true
 }
 
-// The code points of a label behind its prefix. Where they are not read, nothing is promised of what the array holds.
-pub(crate) fn read_points(s: &[u8], out: &mut [u32]) -> Points
+// The code points of a label behind its prefix: how many of the array they are. Where they are not read, nothing is promised of what the array holds.
+pub(crate) fn read_points(s: &[u8], out: &mut [u32]) -> Result<usize, NoPoints>
     requires { length out.old ≡ spelling_limit }
     ensures { Tells s.now out.new result }
 {
     let b = before_last(s);
     if b > out.len() {
-        return Points::Long;
+        return Err(NoPoints::Long);
     }
-    if copy_basics(s, b, out) {
-        if b == 0 {
-            return read_numbers(s, 0, out, b);
-        }
-        return read_numbers(s, b + 1, out, b);
+    if !copy_basics(s, b, out) {
+        return Err(NoPoints::Failed);
     }
-    Points::Failed
+    let at = if b == 0 { 0 } else { b + 1 };
+    read_numbers(s, at, out, b)
 }

@@ -10,8 +10,6 @@
 ghost use Rattle.std.specs.Prelude.{◌≡◌, ◌+◌, length};
 ghost use Rattle.punycode.specs.Answers.{decode_answer, decode_stored, spell_answer, spell_stored};
 
-use decoding::Points;
-
 mod decoding;
 mod labels;
 mod numbers;
@@ -24,12 +22,12 @@ pub struct Spelling {}
 impl Spelling {
     // The most bytes that the spelling of a list entry can have. A longer one is not written.
     pub const LONGEST: usize = 1020;
-    // The answer for a longer one.
+    // The answer for a longer one. A number, and no `Option`: `spell` keeps its answers, of which `spell_answer` and callers speak.
     pub const OVER: usize = Spelling::LONGEST + 1;
 }
 
 // The code points of a label behind its prefix: how many bytes they have in UTF-8; that it doesn't decode, or decodes to a surrogate or to
-// a number above 10FFFF hex; or that it has more than 1,020 bytes.
+// a number above 10FFFF hex; or that it has more than 1,020 bytes. No `Result`: `decode` keeps its answers, which `decode_answer` defines.
 #[derive(Drop)]
 pub enum Decoded {
     Text { length: usize },
@@ -45,14 +43,12 @@ pub fn decode(label: &[u8], out: &mut [u8]) -> Decoded
         return Decoded::Long;
     }
     let mut points = [0u32; Spelling::LONGEST];
-    let d = decoding::read_points(label, &mut points);
-    match d {
-        Points::Read(count) => {
-            let length = utf8::put_points(&points, count, out, 0);
+    match decoding::read_points(label, &mut points) {
+        Ok(count) => {
+            let length = utf8::put_points(&points[..count], out, 0);
             Decoded::Text { length }
         }
-        Points::Failed => Decoded::Failed,
-        Points::Long => Decoded::Failed,
+        Err(_) => Decoded::Failed,
     }
 }
 

@@ -8,7 +8,7 @@ use mathlib.Core.List.{List, [], ◌∷◌}
 use lib.Dec.{eqb, leb}
 use lib.ListN.{length, get_or, drop, length-drop}
 use lib.Seq.{drop-cons, get_or-drop}
-use borrow.Author.Tests.{leb-true, leb-false}
+use borrow.Author.Tests.{leb-true, leb-false, ne_eqb}
 use Rattle.base_sequences.proofs.Booleans.{and_none}
 use Rattle.punycode_rules.specs.Labels.{double_hyphen}
 use Rattle.punycode_laws.proofs.Lists.{or-false-left, or-false-right, or-both}
@@ -44,21 +44,18 @@ pub passed_start : (s : List ℕ) (at : ℕ) → Passed s at at
 passed_start s at = record { rest = refl }
 
 module _ (s : List ℕ) (at i : ℕ) (w : Passed s at i) where
-  pub passed_on : i + 1 < length s → (r : Bool) → r ≡ (eqb (get_or s i 0) 45 && eqb (get_or s (i + 1) 0) 45) → r ≡ false → Passed s at (i + 1)
-  passed_on h r e f = record { rest = double-step s i h r e f ∙ w.rest }
-
   pub passed-end : length s ≤ i + 1 → false ≡ double_hyphen (drop at s)
   passed-end h = sym (double-last s i h) ∙ w.rest
 
-  pub passed_here : i + 1 < length s → (r : Bool) → r ≡ (eqb (get_or s i 0) 45 && eqb (get_or s (i + 1) 0) 45) → r ≡ true → true ≡ double_hyphen (drop at s)
-  passed_here h r e f = sym (double-here s i h r e f) ∙ w.rest
-
   -- where the second of two bytes is no hyphen
-  pub passed-two : i + 1 < length s → (r : Bool) → r ≡ eqb (get_or s (i + 1) 0) 45 → r ≡ false → Passed s at (i + 2)
-  passed-two h r e f = record { rest = later (leb (length s) (i + 1 + 1)) refl ∙ (first ∙ w.rest) }
+  pub passed-two : i + 1 < length s → (get_or s (i + 1) 0 ≡ 45 → ⊥) → Passed s at (i + 2)
+  passed-two h ne = record { rest = later (leb (length s) (i + 1 + 1)) refl ∙ (first ∙ w.rest) }
     where
+      none : eqb (get_or s (i + 1) 0) 45 ≡ false
+      none = ne_eqb (get_or s (i + 1) 0) 45 ne
+
       first : double_hyphen (drop (i + 1) s) ≡ double_hyphen (drop i s)
-      first = double-step s i h false (rw (← e, f) (sym (and_none (eqb (get_or s i 0) 45)))) refl
+      first = double-step s i h false (rw none (sym (and_none (eqb (get_or s i 0) 45)))) refl
 
       two : i + 2 ≡ i + 1 + 1
       two = omega arith
@@ -69,20 +66,17 @@ module _ (s : List ℕ) (at i : ℕ) (w : Passed s at i) where
           double-last s (i + 2) (omega arith) ∙ sym (double-last s (i + 1) l)
       later false t =
           let l = leb-false (length s) (i + 1 + 1) t in
-          rw two (double-step s (i + 1) l false (rw (← e, f)) refl)
+          rw two (double-step s (i + 1) l false (rw none) refl)
 
   -- where the first is none, or both are
-  pub passed-one : i + 1 < length s → (r : Bool) → r ≡ eqb (get_or s i 0) 45 → r ≡ false → Passed s at (i + 1)
-  passed-one h r e f = record { rest = double-step s i h false (rw (← e, f)) refl ∙ w.rest }
+  pub passed-one : i + 1 < length s → (get_or s i 0 ≡ 45 → ⊥) → Passed s at (i + 1)
+  passed-one h ne = record { rest = double-step s i h false (rw (ne_eqb (get_or s i 0) 45 ne)) refl ∙ w.rest }
 
-  pub passed-both : i + 1 < length s → (q r : Bool) → q ≡ eqb (get_or s (i + 1) 0) 45 → q ≡ true → r ≡ eqb (get_or s i 0) 45 → r ≡ true → true ≡ double_hyphen (drop at s)
-  passed-both h q r e f g k = sym (double-here s i h true (rw (← e, f, ← g, k)) refl) ∙ w.rest
+  pub passed-both : i + 1 < length s → get_or s (i + 1) 0 ≡ 45 → get_or s i 0 ≡ 45 → true ≡ double_hyphen (drop at s)
+  passed-both h e f = sym (double-here s i h true (rw (e, f)) refl) ∙ w.rest
 
   pub passed-part : (n : ℕ) (r : Bool) → (r ≡ false → double_hyphen (drop (i + n) s) ≡ double_hyphen (drop i s)) → r ≡ false → Passed s at (i + n)
   passed-part n r e f = record { rest = e f ∙ w.rest }
-
-  pub passed-rest : (r : Bool) → r ≡ double_hyphen (drop i s) → r ≡ double_hyphen (drop at s)
-  passed-rest r e = e ∙ w.rest
 
 -- among a few bytes: as long as none has hit
 pub record Scanned (s : List ℕ) (at j : ℕ) (hit : Bool) : Type 0 where

@@ -19,22 +19,14 @@ fn double_among(s: &[u8], at: usize, n: usize) -> bool
     ensures { result ≡ false → double_hyphen (drop (at + n) s.now) ≡ double_hyphen (drop at s.now) }
 {
     let mut hit = false;
-    let mut j: usize = 0;
-    while j < n {
-        hit = hit | are_hyphens(s[at + j], s[at + j + 1]);
-        j += 1;
+    for j in 0..n {
+        hit |= are_hyphens(s[at + j], s[at + j + 1]);
     }
     hit
 }
 
-// Whether a byte is a hyphen.
-fn is_hyphen(b: u8) -> bool
-    ensures { result ≡ eqb b 45 }
-{
-    b == b'-'
-}
-
-// Whether a text has two hyphens in a row from a place on. Where the second of two bytes is none, neither can be the first of two.
+// Whether a text has two hyphens in a row from a place on. Where the second of two bytes is none, neither can be the first of two: it
+// goes on by one byte or by two, so that it is no `for`.
 fn double_from(s: &[u8], at: usize) -> bool
     ensures { result ≡ double_hyphen (drop at s.now) }
 {
@@ -43,45 +35,36 @@ fn double_from(s: &[u8], at: usize) -> bool
         if base_readers::rest(s.len(), i) < 2 {
             return false;
         }
-        if is_hyphen(s[i + 1]) {
-            if is_hyphen(s[i]) {
-                return true;
-            }
+        if s[i + 1] != b'-' {
+            i += 2;
+        } else if s[i] != b'-' {
             i += 1;
         } else {
-            i += 2;
+            return true;
         }
     }
 }
 
-// A place before which no two hyphens in a row start: sixty-four bytes at a time.
-fn plain_front(s: &[u8]) -> usize
-    ensures { double_hyphen (drop result s.now) ≡ double_hyphen s.now }
+// A place from which on two hyphens in a row stand where they do from the first place on: N bytes at a time. That place is the answer, so it is kept,
+// and no iterator of pieces; two bytes in a row are asked, which is no test of single bytes (`base_runs`).
+fn plain_front<const N: usize>(s: &[u8], at: usize) -> usize
+    ensures { double_hyphen (drop result s.now) ≡ double_hyphen (drop at s.now) }
 {
-    let mut i: usize = 0;
-    loop {
-        if base_readers::rest(s.len(), i) < 65 {
-            return i;
+    let mut i = at;
+    while 0 < N && N < base_readers::rest(s.len(), i) {
+        if double_among(s, i, N) {
+            break;
         }
-        if double_among(s, i, 64) {
-            return i;
-        }
-        i += 64;
+        i += N;
     }
+    i
 }
 
-// Whether a text has two hyphens in a row: sixteen bytes at a time, and one at a time from the first sixteen on that have them.
+// Whether a text has two hyphens in a row: sixty-four bytes at a time, then sixteen, and one at a time from the first sixteen on that have them.
 pub fn has_double_hyphen(s: &[u8]) -> bool
     ensures { result ≡ double_hyphen s.now }
 {
-    let mut i = plain_front(s);
-    loop {
-        if base_readers::rest(s.len(), i) < 17 {
-            return double_from(s, i);
-        }
-        if double_among(s, i, 16) {
-            return double_from(s, i);
-        }
-        i += 16;
-    }
+    let far = plain_front::<64>(s, 0);
+    let near = plain_front::<16>(s, far);
+    double_from(s, near)
 }

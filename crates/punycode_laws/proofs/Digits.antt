@@ -1,4 +1,4 @@
--- Digits, thresholds and scalars, by the tests that the code makes in turn.
+-- Ranges, thresholds and scalars, by the tests that the code makes in turn.
 use Prim.Native.Nat.{ℕ, ◌+◌, ◌-◌, ◌≤◌, ◌<◌}
 use native.Mathlib.Omega.{arith}
 use mathlib.Core.Path.{◌≡◌, refl, sym, ◌∙◌}
@@ -7,50 +7,12 @@ use lib.Dec.{leb}
 use borrow.Author.Tests.{leb-true, leb-false, le-leb, lt-leb, lt-ltb, le-ltb}
 use Rattle.base_sequences.proofs.Booleans.{and_left, and_right}
 use Rattle.base_readers.specs.Texts.{within}
-use Rattle.punycode_rules.specs.Punycode.{digit_of, threshold}
+use Rattle.punycode_rules.specs.Punycode.{threshold}
 use Rattle.punycode_rules.specs.Unicode.{scalar}
-
-pub within-below : (a b x : ℕ) → x < a → false ≡ within a b x
-unfolding within
-within-below a b x h = rw (lt-leb a x h)
-
-pub within-from : (a b x : ℕ) → a ≤ x → leb x b ≡ within a b x
-unfolding within
-within-from a b x h = rw (le-leb a x h)
 
 pub within-inv : (a b x : ℕ) → within a b x ≡ true → (a ≤ x) × (x ≤ b)
 unfolding within
 within-inv a b x h = (leb-true a x (and_left (leb a x) (leb x b) h), leb-true x b (and_right (leb a x) (leb x b) h))
-
--- ==== digits
-
-module _ (x : ℕ) (p : Bool) (e : p ≡ within 97 122 x) where
-  pub small-letter : p ≡ true → x - 97 ≡ digit_of x
-  unfolding digit_of
-  small-letter t = rw (← e, t)
-
-  pub small-from : p ≡ true → 97 ≤ x
-  small-from t = (within-inv 97 122 x (sym e ∙ t)).0
-
-  module _ (n : p ≡ false) (q : Bool) (f : q ≡ within 65 90 x) where
-    pub capital : q ≡ true → x - 65 ≡ digit_of x
-    unfolding digit_of
-    capital t = rw (← e, n, ← f, t)
-
-    pub capital-from : q ≡ true → 65 ≤ x
-    capital-from t = (within-inv 65 90 x (sym f ∙ t)).0
-
-    module _ (m : q ≡ false) (r : Bool) (g : r ≡ within 48 57 x) where
-      pub figure : r ≡ true → x - 48 + 26 ≡ digit_of x
-      unfolding digit_of
-      figure t = rw (← e, n, ← f, m, ← g, t)
-
-      pub figure-from : r ≡ true → 48 ≤ x
-      figure-from t = (within-inv 48 57 x (sym g ∙ t)).0
-
-      pub no_digit : r ≡ false → 36 ≡ digit_of x
-      unfolding digit_of
-      no_digit t = rw (← e, n, ← f, m, ← g, t)
 
 -- ==== thresholds
 

@@ -6,15 +6,13 @@ use mathlib.Core.Bool.{Bool, true, false, ◌&&◌}
 use mathlib.Core.List.{List, [], ◌∷◌, ◌++◌}
 use mathlib.Core.Option.{Option, none, some}
 use lib.Dec.{eqb, leb}
-use lib.ListN.{length, get_or, take, drop, length-drop}
+use lib.ListN.{length, take, drop, length-drop}
 use lib.Seq.{take_all, drop-drop}
-use borrow.Author.Tests.{ne_eqb, leb-true, leb-false, eqb-true}
+use borrow.Author.Tests.{leb-true, leb-false, eqb-true}
 use Rattle.base_sequences.proofs.Booleans.{no_true}
 use Rattle.base_readers.specs.Texts.{one_of}
 use Rattle.base_readers.specs.Readers.{run}
-use Rattle.base_readers.specs.Places.{Reaches}
 use Rattle.base_readers.proofs.Readers.{run_more, run_fits}
-use Rattle.base_readers.proofs.Loops.{run_on, run-off}
 use Rattle.punycode_rules.specs.Unicode.{scalars, utf8s}
 use Rattle.base_readers.specs.Lines.{on_first}
 use Rattle.punycode_rules.specs.Labels.{kept, decoded, prefixed, spelled, in_label, labels, joined, spelling}
@@ -74,19 +72,9 @@ scalars-of xs u e = decoded-scalars _ u e
 
 -- ==== labels
 
-in-dot : in_label 46 ≡ false
-unfolding in_label
-in-dot = refl
-
 pub in-other : (x : ℕ) → eqb x 46 ≡ false → in_label x ≡ true
 unfolding in_label
 in-other x h = rw h
-
-pub label-stop : (t : List ℕ) (at i : ℕ) → Reaches (run in_label) t at i → i < length t → get_or t i 0 ≡ 46 → i ≡ at + run in_label (drop at t)
-label-stop t at i w h e = run-off in_label t at i false w h (sym (ap in_label e ∙ in-dot)) refl
-
-pub label-go : (t : List ℕ) (at i : ℕ) → Reaches (run in_label) t at i → i < length t → (get_or t i 0 ≡ 46 → ⊥) → Reaches (run in_label) t at (i + 1)
-label-go t at i w h e = run_on in_label t at i true w h (sym (in-other (get_or t i 0) (ne_eqb _ _ e))) refl
 
 run-dot : (x : ℕ) (xs : List ℕ) → eqb x 46 ≡ true → run in_label (x ∷ xs) ≡ 0
 unfolding run in_label

@@ -3,8 +3,8 @@
 use Prim.Native.Nat.{ℕ, ◌+◌, ◌*◌, ◌≤◌, ◌<◌, ◌^◌}
 use native.Mathlib.Nat.{zero-add}
 use native.Mathlib.Omega.{arith}
-use mathlib.Core.Path.{◌≡◌, refl, sym, ap, ◌∙◌, subst}
-use mathlib.Core.Bool.{Bool, true, false}
+use mathlib.Core.Path.{◌≡◌, refl, sym, ap, ◌∙◌}
+use mathlib.Core.Bool.{true, false}
 use mathlib.Core.List.{List, ◌∷◌, ◌++◌}
 use lib.ListN.{length, drop}
 use Rattle.base_readers.specs.Parsers.{Got, nothing, got}
@@ -19,8 +19,8 @@ use Rattle.report_rules.specs.Body.{resinfo}
 use Rattle.report_rules.specs.Report.{result_lines, lines, ignored_of}
 use Rattle.report_laws.proofs.Sequence.{resinfo-within}
 use Rattle.report_results.specs.declared.Turn.{Turn}
-use Rattle.report_results.specs.declared.Turn.TheVariants as turn
-use Rattle.report.specs.Internal.{turn_lines, TurnRead, TurnPut, ResultsPut}
+use Rattle.std.specs.Prelude.{Some, None}
+use Rattle.report.specs.Internal.{turn_lines, TurnPut, ResultsPut}
 use Rattle.report_laws.proofs.Sizes.{resinfo-size}
 use Rattle.report.proofs.Fronts.{Fronting, fronting-start, fronting-step, fronting-over, fronting-end, fronting-done}
 
@@ -76,24 +76,21 @@ module _ (s : List ℕ) (at : ℕ) (old : List ℕ) (to : ℕ) (out : List ℕ) 
       → (g ≡ spaced s i) × (n + length (turn_lines s i) < 2 ^ 64)
   passing-room l h = (w.gap, omega (arith, turn-short s i l, h, w.left.place))
 
-  module _ (new : List ℕ) (t : Turn) (p : TurnPut s i out n new t) where
-    module _ (e x m : ℕ) (u : Bool) (q : t ≡ turn.Read e x m u) where
-      read : TurnRead s i out n new e x m u
-      read = subst (TurnPut s i out n new) q p
+  module _ (new : List ℕ) where
+    module _ (t : Turn) (read : TurnPut s i out n new (Some t)) where
+      more : list_at resinfo s i ≡ read.result ∷ list_at resinfo s t.end
+      more = list-more resinfo s i resinfo-within read.result t.end read.reads
 
-      more : list_at resinfo s i ≡ read.result ∷ list_at resinfo s e
-      more = list-more resinfo s i resinfo-within read.result e read.reads
+      same_end : end_at resinfo s t.end ≡ end_at resinfo s at
+      same_end = sym (end_more resinfo s i resinfo-within read.result t.end read.reads) ∙ w.end
 
-      same_end : end_at resinfo s e ≡ end_at resinfo s at
-      same_end = sym (end_more resinfo s i resinfo-within read.result e read.reads) ∙ w.end
-
-      pub passing-further : (i < e) × (e ≤ length s)
-      passing-further = further resinfo s i resinfo-within read.result e read.reads
+      pub passing-further : (i < t.end) × (t.end ≤ length s)
+      passing-further = further resinfo s i resinfo-within read.result t.end read.reads
 
       -- it is understood: its lines stay
-      pub passing-shown : u ≡ true → Passing s at old to new e x m ignored
+      pub passing-shown : t.understood ≡ true → Passing s at old to new t.end t.gap t.next ignored
       passing-shown z =
-          let rs = list_at resinfo s e in
+          let rs = list_at resinfo s t.end in
           let k : understood read.result ≡ true = sym read.known ∙ z in
           let c = rw (more, ignored-not read.result rs k) at w.count in
           record {
@@ -105,9 +102,9 @@ module _ (s : List ℕ) (at : ℕ) (old : List ℕ) (to : ℕ) (out : List ℕ) 
           }
 
       -- it is not: the next lines are written over its own
-      pub passing-ignored : u ≡ false → Passing s at old to new e x n (ignored + 1)
+      pub passing-ignored : t.understood ≡ false → Passing s at old to new t.end t.gap n (ignored + 1)
       passing-ignored z =
-          let rs = list_at resinfo s e in
+          let rs = list_at resinfo s t.end in
           let k : understood read.result ≡ false = sym read.known ∙ z in
           let c = rw (more, ignored-one read.result rs k) at w.count in
           let l = fronting-over w.left read.wrote in
@@ -120,10 +117,7 @@ module _ (s : List ℕ) (at : ℕ) (old : List ℕ) (to : ℕ) (out : List ℕ) 
           }
 
     -- no result comes next
-    module _ (q : t ≡ turn.Missing) where
-      none : (nothing ≡ from resinfo s i) × (new ≡ out)
-      none = subst (TurnPut s i out n new) q p
-
+    module _ (none : TurnPut s i out n new None) where
       pub passed : ResultsPut s at old to new (record { end = i; gap = g; next = n; ignored = ignored })
       unfolding lines ignored_of
       passed =

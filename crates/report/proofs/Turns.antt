@@ -20,7 +20,7 @@ use Rattle.result_separators.proofs.Separators.{separated-yes, separated-no, sep
 use Rattle.report_rules.specs.Body.{resinfo}
 use Rattle.report_rules.specs.Report.{result_lines}
 use Rattle.report_results.specs.declared.Turn.{Turn}
-use Rattle.report_results.specs.declared.Turn.TheVariants as turn
+use Rattle.std.specs.Prelude.{Option, Some, None}
 use Rattle.report_results.specs.Turns.{turn_at, lines_at}
 use Rattle.report.specs.Internal.{turn_lines, TurnPut}
 
@@ -72,19 +72,19 @@ module _ (s : List ℕ) (i x : ℕ) (y : x ≡ spaced s i) (a : ℕ) (z : a ≡ 
       go false t = absurd (ne (omega (arith, q, (lacks-separator s i t).0)))
 
   -- a separator, and what stands behind it
-  pub turn-put : (a ≡ i → ⊥) → (to : ℕ) → to + length (turn_lines s i) < 2 ^ 64 → (old new : List ℕ) (t : Turn) → t ≡ turn_at s a to → new ≡ sets old to (lines_at s a)
+  pub turn-put : (a ≡ i → ⊥) → (to : ℕ) → to + length (turn_lines s i) < 2 ^ 64 → (old new : List ℕ) (t : Option Turn) → t ≡ turn_at s a to → new ≡ sets old to (lines_at s a)
       → TurnPut s i old to new t
   unfolding turn_lines turn_at lines_at
   turn-put ne to l old new t h w = go (from bare_result s a) refl
     where
       go : (x : Got Result) → from bare_result s a ≡ x → TurnPut s i old to new t
       go nothing e =
-          let k : t ≡ turn.Missing = h ∙ rw (turn_at, e) in
+          let k : t ≡ None = h ∙ rw (turn_at, e) in
           let z : sets old to (lines_at s a) ≡ old = rw (lines_at, e) in
           subst (TurnPut s i old to new) (sym k) (at-separator ne nothing (sym e), w ∙ z)
       go (got r n) e =
           let f = at-separator ne (got r n) (sym e) in
           let j : to + length (result_lines r) < 2 ^ 64 = rw (turn_lines, ← f) at l in
-          let k : t ≡ turn.Read n (spaced s n) (min (to + length (result_lines r)) cap) (understood r) = h ∙ rw (turn_at, e) in
+          let k : t ≡ Some (record { end = n; gap = spaced s n; next = min (to + length (result_lines r)) cap; understood = understood r }) = h ∙ rw (turn_at, e) in
           let z : sets old to (lines_at s a) ≡ sets old to (result_lines r) = rw (lines_at, e) in
           subst (TurnPut s i old to new) (sym k) (record { result = r; reads = f; gap = refl; known = refl; wrote = record { place = omega (arith, j); bytes = w ∙ z } })

@@ -16,7 +16,7 @@ use Rattle.report_rules.specs.Body.{Reading, unreadable, malformed, newer, no_re
 use Rattle.report_rules.specs.Report.{id_line, version_line, none_line, result_lines, lines, ignored_of}
 use Rattle.report_rules.specs.declared.Reported.{Reported}
 use Rattle.report_results.specs.declared.Turn.{Turn}
-use Rattle.report_results.specs.declared.Turn.TheVariants as turn
+use Rattle.std.specs.Prelude.{Option, Some, None}
 use Rattle.report.specs.declared.results.Results.{Results}
 
 -- ==== one result, with the space and the ";" before it
@@ -33,9 +33,9 @@ pub record TurnRead (s : List ℕ) (at : ℕ) (old : List ℕ) (to : ℕ) (new :
   pub known : u ≡ understood result
   pub wrote : Wrote old to (result_lines result) new n
 
-abbrev pub TurnPut : List ℕ → ℕ → List ℕ → ℕ → List ℕ → Turn → Type 0
-TurnPut s at old to new (turn.Read e g n u) = TurnRead s at old to new e g n u
-TurnPut s at old to new turn.Missing = (nothing ≡ from resinfo s at) × (new ≡ old)
+abbrev pub TurnPut : List ℕ → ℕ → List ℕ → ℕ → List ℕ → Option Turn → Type 0
+TurnPut s at old to new (Some t) = TurnRead s at old to new t.end t.gap t.next t.understood
+TurnPut s at old to new None = (nothing ≡ from resinfo s at) × (new ≡ old)
 
 -- ==== all results
 

@@ -16,20 +16,20 @@ ghost use Rattle.report.specs.Internal.{turn_lines, TurnPut, ResultsPut};
 use report_results::Turn;
 
 // The next result behind a place, with its lines: a separator, and what stands behind it.
-fn put_next(s: &[u8], at: usize, gap: usize, out: &mut [u8], to: usize) -> Turn
+fn put_next(s: &[u8], at: usize, gap: usize, out: &mut [u8], to: usize) -> Option<Turn>
     requires { (gap ≡ spaced s.now at) × (to + length (turn_lines s.now at) < 2 ^ 64) }
     ensures { TurnPut s.now at out.old to out.new result }
 {
     let a = result_separators::separator_from(s, at, gap, b';');
     if a == at {
-        return Turn::Missing;
+        return None;
     }
     report_results::put_result(s, a, out, to)
 }
 
 // All results behind a place: the place after the last of them, with its space, the place after the lines of those that are understood,
 // and how many are not.
-#[derive(Drop)]
+#[derive(Clone, Copy)]
 pub(crate) struct Results {
     pub(crate) end: usize,
     pub(crate) gap: usize,
@@ -45,30 +45,19 @@ pub(crate) fn put_results(s: &[u8], at: usize, gap: usize, out: &mut [u8], to: u
     let mut a = gap;
     let mut n = to;
     let mut ignored: usize = 0;
-    loop {
-        match put_next(s, i, a, out, n) {
-            Turn::Read {
-                end,
-                gap: behind,
-                next,
-                understood,
-            } => {
-                i = end;
-                a = behind;
-                if understood {
-                    n = next;
-                } else {
-                    ignored += 1;
-                }
-            }
-            Turn::Missing => {
-                return Results {
-                    end: i,
-                    gap: a,
-                    next: n,
-                    ignored,
-                };
-            }
+    while let Some(turn) = put_next(s, i, a, out, n) {
+        i = turn.end;
+        a = turn.gap;
+        if turn.understood {
+            n = turn.next;
+        } else {
+            ignored += 1;
         }
+    }
+    Results {
+        end: i,
+        gap: a,
+        next: n,
+        ignored,
     }
 }

@@ -13,9 +13,22 @@ ghost use Rattle.lexis_rules.specs.Words.{quoted_text};
 ghost use Rattle.report_rules.specs.Report.{escape};
 ghost use Rattle.report_escape.specs.Internal.{verbatim};
 
+use base_runs::ByteTest;
 use lexis_rules::Class;
 
 mod byte;
+
+// The bytes that are written as they stand.
+#[derive(Drop)]
+struct Verbatim;
+
+impl ByteTest for Verbatim {
+    ghost passes = { λ t. verbatim };
+
+    fn passes(&self, b: u8) -> bool {
+        is_verbatim(b)
+    }
+}
 
 // Whether a byte is written as it stands, in a quoted string or not. All tests are made, so that many bytes can be tested at once.
 fn is_verbatim(b: u8) -> bool
@@ -24,50 +37,23 @@ fn is_verbatim(b: u8) -> bool
     (b >= 38) & (b != b'\\') & (b <= 126)
 }
 
-// Whether one of n bytes is not, in the same way as `has_stop` of `lexis_comments`.
+// Whether one of n bytes is not. There is no way out of the loop, so that it becomes a few wide compares.
 fn has_stop(s: &[u8], at: usize, n: usize) -> bool
     requires { at + n ≤ length s.now }
     ensures { result ≡ false → Reaches (run verbatim) s.now at (at + n) }
 {
     let mut hit = false;
-    let mut j: usize = 0;
-    while j < n {
+    for j in 0..n {
         hit = hit | !is_verbatim(s[at + j]);
-        j += 1;
     }
     hit
-}
-
-// The end of the bytes that are written as they stand: a byte at a time.
-fn near(s: &[u8], at: usize) -> usize
-    ensures { result ≡ at + run verbatim (drop at s.now) }
-{
-    let mut i = at;
-    while i < s.len() {
-        if is_verbatim(s[i]) {
-            i += 1;
-        } else {
-            return i;
-        }
-    }
-    i
 }
 
 // The end of the bytes that are written as they stand: eight bytes at a time.
 fn verbatim_end(s: &[u8], at: usize) -> usize
     ensures { result ≡ at + run verbatim (drop at s.now) }
 {
-    let mut i = at;
-    loop {
-        let r = base_readers::rest(s.len(), i);
-        if r < 8 {
-            return near(s, i);
-        }
-        if has_stop(s, i, 8) {
-            return near(s, i);
-        }
-        i += 8;
-    }
+    base_runs::wide_run_end::<8, _>(s, at, &Verbatim)
 }
 
 // Whether all bytes of a text are written as they stand, eight at a time, the last eight over some that were tested before. No text of less
@@ -79,12 +65,10 @@ fn is_whole(s: &[u8]) -> bool
     if n < 8 {
         return false;
     }
-    let mut i: usize = 0;
-    while i < n - 8 {
+    for i in (0..n - 8).step_by(8) {
         if has_stop(s, i, 8) {
             return false;
         }
-        i += 8;
     }
     !has_stop(s, n - 8, 8)
 }
@@ -96,6 +80,7 @@ pub fn put_escaped(text: &[u8], out: &mut [u8], to: usize) -> usize
     if is_whole(text) {
         return text_write::put_part(text, out, to);
     }
+    // A `while`: a turn passes a run of bytes or one byte, so no index is counted.
     let mut i: usize = 0;
     let mut n = to;
     while i < text.len() {
@@ -112,7 +97,8 @@ pub fn put_escaped(text: &[u8], out: &mut [u8], to: usize) -> usize
     n
 }
 
-// The text of the quoted string that starts at a place: bytes that are written as they stand at once, the other items one at a time.
+// The text of the quoted string that starts at a place: bytes that are written as they stand at once, the other items one at a time. How far a turn goes is
+// what it reads, so there is no range to go over.
 pub fn put_quoted(s: &[u8], at: usize, out: &mut [u8], to: usize) -> usize
     ensures { Clipped out.old to (escape (quoted_text (drop at s.now))) out.new result }
 {

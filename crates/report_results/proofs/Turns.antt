@@ -42,7 +42,9 @@ use Rattle.result_laws.proofs.Results.{property-within}
 use Rattle.report_rules.specs.Report.{method_line, reason_line, property_line, property_lines, result_lines}
 use Rattle.report_results.specs.declared.Details.{Details}
 use Rattle.report_results.specs.declared.Stated as stated
-use Rattle.report_results.specs.declared.Turn.TheVariants as turn
+use Rattle.std.specs.Prelude as std
+use Rattle.std.specs.Prelude.{Some, None}
+use Rattle.report_results.specs.declared.Turn.{Turn}
 use Rattle.report_lines.specs.Lines.{method_text, reason_text, property_text}
 use Rattle.report_results.specs.Turns.{turn_at, lines_at}
 use Rattle.report_results.specs.Internal.{knows_type, knows_method, option_at, option_end, properties_at, detail_lines, PropertiesPut, ReasonPut, DetailsPut}
@@ -202,12 +204,16 @@ module _ (known : Bool) (p : List ℕ) where
   unfolding knows_type
   type-unknown e = rw (knows_type, e)
 
+-- a turn by its places
+abbrev pub turn_of : ℕ → ℕ → ℕ → Bool → std.Option Turn
+turn_of e g n u = Some (record { end = e; gap = g; next = n; understood = u })
+
 -- where there is no method there is no result
 module _ (s : List ℕ) (a : ℕ) (h : method.Missing ≡ method_at s a) where
   pub none_read : nothing ≡ from bare_result s a
   none_read = stops methodspec _ s a (at_none methodspec s a (method-not s a h))
 
-  pub turn-missing : (to : ℕ) → turn.Missing ≡ turn_at s a to
+  pub turn-missing : (to : ℕ) → None ≡ turn_at s a to
   unfolding turn_at
   turn-missing to = rw (turn_at, ← none_read)
 
@@ -240,7 +246,7 @@ module _ (s : List ℕ) (a b e : ℕ) (v : VersionNumber) (f g : ℕ) (h : metho
   known-whole = refl
 
   turn-whole : (to : ℕ)
-      → turn.Read (end_at property s (option_end reason s g)) (spaced s (end_at property s (option_end reason s g))) (min (to + length (result_lines whole)) cap) (understood whole) ≡ turn_at s a to
+      → turn_of (end_at property s (option_end reason s g)) (spaced s (end_at property s (option_end reason s g))) (min (to + length (result_lines whole)) cap) (understood whole) ≡ turn_at s a to
   unfolding turn_at
   turn-whole to = rw (turn_at, ← read_whole)
 
@@ -256,7 +262,7 @@ module _ (s : List ℕ) (a b e : ℕ) (v : VersionNumber) (f g : ℕ) (h : metho
     lines-read = rw (← lines-at) put_whole.bytes
 
     pub turn-read : (t : Bool) → t ≡ knows_method v (span s b e) (span s f g) → (u : Bool) → u ≡ (t && d.known)
-        → turn.Read d.end d.gap d.next u ≡ turn_at s a to
+        → turn_of d.end d.gap d.next u ≡ turn_at s a to
     unfolding knows_method
     turn-read t q u r =
         let k : u ≡ understood whole = r ∙ (rw (q, p.known) (sym known-whole)) in

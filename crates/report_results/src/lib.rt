@@ -8,7 +8,7 @@
 // (`gap`).
 #![tactic(auto)]
 
-ghost use Rattle.std.specs.Prelude.{◌≡◌, ◌&&◌};
+ghost use Rattle.std.specs.Prelude.{◌≡◌};
 ghost use Rattle.std.proofs.lemmas.List.Edits.{sets};
 ghost use Rattle.base_sequences.specs.Spans.{span};
 ghost use Rattle.result_separators.specs.Separators.{spaced};
@@ -21,8 +21,8 @@ use result_parts::Reason;
 use result_steps::Step;
 
 // What was read and written: the place after it in the body, with its space, and the place after its text, and whether all of its ptypes
-// are known.
-#[derive(Drop)]
+// are known; it excludes neither place, so there is no Option.
+#[derive(Clone, Copy)]
 struct Details {
     end: usize,
     gap: usize,
@@ -60,7 +60,8 @@ fn knows_method(
     false
 }
 
-// The properties behind a method or a reason that ends at a place, with their lines.
+// The properties behind a method or a reason that ends at a place, with their lines. Where the next one starts is told by the one before, so there is no
+// range to go over.
 fn put_properties(s: &[u8], at: usize, gap: usize, out: &mut [u8], to: usize) -> Details
     requires { gap ≡ spaced s.now at }
     ensures { PropertiesPut s.now at out.old to out.new result }
@@ -96,7 +97,7 @@ fn put_properties(s: &[u8], at: usize, gap: usize, out: &mut [u8], to: usize) ->
 }
 
 // The places after a reason, with its space, and after its line.
-#[derive(Drop)]
+#[derive(Clone, Copy)]
 struct Stated {
     end: usize,
     gap: usize,
@@ -134,28 +135,16 @@ fn put_details(s: &[u8], at: usize, out: &mut [u8], to: usize) -> Details
 }
 
 // A result that was read: the place after it, with its space, the place after its lines, and whether it is understood.
-#[derive(Drop)]
-pub enum Turn {
-    Read {
-        end: usize,
-        gap: usize,
-        next: usize,
-        understood: bool,
-    },
-    Missing,
+#[derive(Clone, Copy)]
+pub struct Turn {
+    pub end: usize,
+    pub gap: usize,
+    pub next: usize,
+    pub understood: bool,
 }
 
-fn both(a: bool, b: bool) -> bool
-    ensures { result ≡ (a && b) }
-{
-    if a {
-        return b;
-    }
-    false
-}
-
-// The result at a place, behind its separator, with its lines.
-pub fn put_result(s: &[u8], at: usize, out: &mut [u8], to: usize) -> Turn
+// The result at a place, behind its separator, with its lines, if there is one.
+pub fn put_result(s: &[u8], at: usize, out: &mut [u8], to: usize) -> Option<Turn>
     ensures value { result ≡ turn_at s.now at to }
     ensures out_after { out.new ≡ sets out.old to (lines_at s.now at) }
 {
@@ -170,13 +159,13 @@ pub fn put_result(s: &[u8], at: usize, out: &mut [u8], to: usize) -> Turn
             let known = knows_method(version, s, start, end, result_start, result_end);
             let n = report_lines::put_method(s, start, end, result_start, result_end, out, to);
             let d = put_details(s, result_end, out, n);
-            Turn::Read {
+            Some(Turn {
                 end: d.end,
                 gap: d.gap,
                 next: d.next,
-                understood: both(known, d.known),
-            }
+                understood: known && d.known,
+            })
         }
-        Method::Missing => Turn::Missing,
+        Method::Missing => None,
     }
 }

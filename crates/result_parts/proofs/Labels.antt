@@ -12,69 +12,69 @@ use Rattle.base_readers.proofs.Places.{goes_on, stops, gives}
 use Rattle.lexis_rules.specs.Pieces.{space, keyword}
 use Rattle.lexis_rules.specs.Words.{keyword_text, gap, read_keyword}
 use Rattle.result_parts.specs.declared.Label.{Label}
-use Rattle.result_parts.specs.declared.Label.TheVariants.{Read, Missing}
+use Rattle.std.specs.Prelude.{Option, None}
 use Rattle.result_rules.specs.Results.{Property, separator, property_value, property}
 use Rattle.result_separators.specs.Separators.{separated, behind}
-use Rattle.result_parts.specs.Parts.{Names, names, names_at, label_from, label_at, label_got}
+use Rattle.result_parts.specs.Parts.{Names, label_read, names, names_at, label_from, label_at, label_got}
 use Rattle.base_sequences.specs.Spans.{span}
 use Rattle.result_separators.proofs.Separators.{past-none, past-some, behind-none, behind-some, through, gap-reads, separator-reads, keyword-reads}
 
 -- ==== by the tests of the code
 
 module _ (s : List ℕ) (at a : ℕ) where
-  pub label-no-space : a ≡ at → Missing ≡ label_from s at a
+  pub label-no-space : a ≡ at → None ≡ label_from s at a
   unfolding label_from
-  label-no-space z = sym (past-none at a Missing _ z)
+  label-no-space z = sym (past-none at a None _ z)
 
   module _ (na : a ≡ at → ⊥) (e : ℕ) (p : e ≡ a + keyword (drop a s)) where
-    from-type : label_from s at a ≡ behind keyword s a Missing (λ e. names_at s a e)
+    from-type : label_from s at a ≡ behind keyword s a None (λ e. names_at s a e)
     unfolding label_from
-    from-type = past-some at a Missing _ na
+    from-type = past-some at a None _ na
 
-    pub label-no-type : e ≡ a → Missing ≡ label_from s at a
-    label-no-type z = sym (from-type ∙ behind-none keyword s a e p Missing _ z)
+    pub label-no-type : e ≡ a → None ≡ label_from s at a
+    label-no-type z = sym (from-type ∙ behind-none keyword s a e p None _ z)
 
     module _ (ne : e ≡ a → ⊥) (b : ℕ) (m : b ≡ e + separated 46 (drop e s)) where
       from-dot : label_from s at a ≡ names_at s a e
-      from-dot = from-type ∙ behind-some keyword s a e p Missing _ ne
+      from-dot = from-type ∙ behind-some keyword s a e p None _ ne
 
-      pub label-no-dot : b ≡ e → Missing ≡ label_from s at a
+      pub label-no-dot : b ≡ e → None ≡ label_from s at a
       unfolding names_at
-      label-no-dot z = sym (from-dot ∙ behind-none (separated 46) s e b m Missing _ z)
+      label-no-dot z = sym (from-dot ∙ behind-none (separated 46) s e b m None _ z)
 
       module _ (nb : b ≡ e → ⊥) (f : ℕ) (w : f ≡ b + keyword (drop b s)) where
-        from-name : label_from s at a ≡ behind keyword s b Missing (λ f. behind (separated 61) s f Missing (λ v. Read a e b f v))
+        from-name : label_from s at a ≡ behind keyword s b None (λ f. behind (separated 61) s f None (λ v. label_read a e b f v))
         unfolding names_at
-        from-name = from-dot ∙ behind-some (separated 46) s e b m Missing _ nb
+        from-name = from-dot ∙ behind-some (separated 46) s e b m None _ nb
 
-        pub label-no-name : f ≡ b → Missing ≡ label_from s at a
-        label-no-name z = sym (from-name ∙ behind-none keyword s b f w Missing _ z)
+        pub label-no-name : f ≡ b → None ≡ label_from s at a
+        label-no-name z = sym (from-name ∙ behind-none keyword s b f w None _ z)
 
         module _ (nf : f ≡ b → ⊥) (v : ℕ) (u : v ≡ f + separated 61 (drop f s)) where
-          from-equals : label_from s at a ≡ behind (separated 61) s f Missing (λ v. Read a e b f v)
-          from-equals = from-name ∙ behind-some keyword s b f w Missing _ nf
+          from-equals : label_from s at a ≡ behind (separated 61) s f None (λ v. label_read a e b f v)
+          from-equals = from-name ∙ behind-some keyword s b f w None _ nf
 
-          pub label-no-equals : v ≡ f → Missing ≡ label_from s at a
-          label-no-equals z = sym (from-equals ∙ behind-none (separated 61) s f v u Missing _ z)
+          pub label-no-equals : v ≡ f → None ≡ label_from s at a
+          label-no-equals z = sym (from-equals ∙ behind-none (separated 61) s f v u None _ z)
 
-          pub label-read : (v ≡ f → ⊥) → Read a e b f v ≡ label_from s at a
-          label-read nv = sym (from-equals ∙ behind-some (separated 61) s f v u Missing _ nv)
+          pub label-read : (v ≡ f → ⊥) → label_read a e b f v ≡ label_from s at a
+          label-read nv = sym (from-equals ∙ behind-some (separated 61) s f v u None _ nv)
 
 -- ==== what the parser yields
 
 -- an answer stands for what a parser gives
-abbrev Stands : List ℕ → Label → Got Names → Type 0
+abbrev Stands : List ℕ → Option Label → Got Names → Type 0
 Stands s m y = label_got s m ≡ y
 
 -- what the code finds is what the parser yields
 pub label-got : (s : List ℕ) (at : ℕ) → label_got s (label_at s at) ≡ from names s at
 unfolding names label_from names_at
 label-got s at =
-    through (Stands s) space gap s at _ (gap-reads s at) Missing _ _ refl
-    (λ a. through (Stands s) keyword read_keyword s a _ (keyword-reads s a) Missing _ _ refl
-    (λ e. through (Stands s) (separated 46) (separator 46) s e _ (separator-reads s e 46) Missing _ _ refl
-    (λ b. through (Stands s) keyword read_keyword s b _ (keyword-reads s b) Missing _ _ refl
-    (λ f. through (Stands s) (separated 61) (separator 61) s f _ (separator-reads s f 61) Missing _ _ refl
+    through (Stands s) space gap s at _ (gap-reads s at) None _ _ refl
+    (λ a. through (Stands s) keyword read_keyword s a _ (keyword-reads s a) None _ _ refl
+    (λ e. through (Stands s) (separated 46) (separator 46) s e _ (separator-reads s e 46) None _ _ refl
+    (λ b. through (Stands s) keyword read_keyword s b _ (keyword-reads s b) None _ _ refl
+    (λ f. through (Stands s) (separated 61) (separator 61) s f _ (separator-reads s f 61) None _ _ refl
     (λ v. gives (record { ptype = keyword_text (span s a e); property = keyword_text (span s b f) }) s v)))))
 
 -- ==== a property
@@ -118,13 +118,13 @@ property-is xs =
 
 module _ (s : List ℕ) (at : ℕ) where
   -- so a property is read from its value's place on
-  pub property-behind : (a e b f v : ℕ) → Read a e b f v ≡ label_at s at → (x : Got Property)
+  pub property-behind : (a e b f v : ℕ) → label_read a e b f v ≡ label_at s at → (x : Got Property)
       → x ≡ from (valued (record { ptype = keyword_text (span s a e); property = keyword_text (span s b f) })) s v → x ≡ from property s at
   unfolding from
   property-behind a e b f v h x k =
       goes_on names valued s at (record { ptype = keyword_text (span s a e); property = keyword_text (span s b f) }) v x (ap (label_got s) h ∙ label-got s at) k
       ∙ ap (after at) (sym (property-is (drop at s)))
 
-  pub property-not : Missing ≡ label_at s at → nothing ≡ from property s at
+  pub property-not : None ≡ label_at s at → nothing ≡ from property s at
   unfolding from
   property-not h = stops names valued s at (ap (label_got s) h ∙ label-got s at) ∙ ap (after at) (sym (property-is (drop at s)))

@@ -8,10 +8,10 @@ use Rattle.base_readers.specs.Parsers.{Got, nothing, got}
 use Rattle.base_readers.proofs.Cases.{Case, case, Says}
 use Rattle.lexis_rules.specs.Answers.{value_at}
 use Rattle.result_parts.specs.declared.Reason.TheVariants.{Stated, Absent}
-use Rattle.result_parts.specs.declared.Label.TheVariants as label
+use Rattle.std.specs.Prelude.{None}
 use Rattle.result_rules.specs.Results.{reason}
 use Rattle.result_separators.specs.Separators.{separated, past}
-use Rattle.result_parts.specs.Parts.{reason_from, reason_at, reason_got, Names, names, names_at, label_from, label_at, label_got}
+use Rattle.result_parts.specs.Parts.{label_read, reason_from, reason_at, reason_got, Names, names, names_at, label_from, label_at, label_got}
 use Rattle.result_rules.proofs.Unfolding as definitions
 
 unfoldable opened : Unit {0}
@@ -69,17 +69,17 @@ reasons_found = refl
 
 label_places :
     Says (λ s. label_at s 0)
-    (case (bytes " smtp.mailfrom=a@b.c") (label.Read 1 5 6 14 15)
-    ∷ case (bytes " header . d = x") (label.Read 1 7 10 11 14)
-    ∷ case (bytes " reason.a=x") (label.Read 1 7 8 9 10)
-    ∷ case (bytes " smtp.a=") (label.Read 1 5 6 7 8)
-    ∷ case (bytes "smtp.a=x") label.Missing
-    ∷ case (bytes " smtp=x") label.Missing
-    ∷ case (bytes " smtp.=x") label.Missing
-    ∷ case (bytes " smtp..a=x") label.Missing
-    ∷ case (bytes " smtp-.a=x") label.Missing
-    ∷ case (bytes " smtp.a") label.Missing
-    ∷ case [] label.Missing
+    (case (bytes " smtp.mailfrom=a@b.c") (label_read 1 5 6 14 15)
+    ∷ case (bytes " header . d = x") (label_read 1 7 10 11 14)
+    ∷ case (bytes " reason.a=x") (label_read 1 7 8 9 10)
+    ∷ case (bytes " smtp.a=") (label_read 1 5 6 7 8)
+    ∷ case (bytes "smtp.a=x") None
+    ∷ case (bytes " smtp=x") None
+    ∷ case (bytes " smtp.=x") None
+    ∷ case (bytes " smtp..a=x") None
+    ∷ case (bytes " smtp-.a=x") None
+    ∷ case (bytes " smtp.a") None
+    ∷ case [] None
     ∷ [])
 unfolding opened
 label_places = refl

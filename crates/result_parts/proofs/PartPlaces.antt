@@ -5,10 +5,10 @@ use mathlib.Core.Path.{◌≡◌, sym, subst}
 use mathlib.Core.List.{List}
 use lib.ListN.{length}
 use Rattle.lexis_rules.specs.Pieces.{space, keyword}
+use Rattle.std.specs.Prelude.{Option, Some, None}
 use Rattle.result_parts.specs.declared.Label.{Label}
-use Rattle.result_parts.specs.declared.Label.TheVariants.{Read, Missing}
 use Rattle.result_separators.specs.Separators.{separated}
-use Rattle.result_parts.specs.Parts.{names_at, label_from, label_at}
+use Rattle.result_parts.specs.Parts.{label_read, names_at, label_from, label_at}
 use Rattle.result_separators.proofs.Separators.{all-behind, separated-fits, ends-inside}
 
 -- a ptype from a up to e, a property from b up to f, and the value's place, found behind a place
@@ -20,20 +20,20 @@ pub record LabelPlaces (s : List ℕ) (at a e b f v : ℕ) : Type 0 where
   pub equals : f < v
   pub inside : v ≤ length s
 
-abbrev LabelStands : List ℕ → ℕ → Label → Type 0
-LabelStands s at (Read a e b f v) = LabelPlaces s at a e b f v
-LabelStands s at Missing = Unit
+abbrev LabelStands : List ℕ → ℕ → Option Label → Type 0
+LabelStands s at (Some l) = LabelPlaces s at l.type_start l.type_end l.name_start l.name_end l.value
+LabelStands s at None = Unit
 
 module _ (s : List ℕ) (at : ℕ) where
   label-stands : LabelStands s at (label_at s at)
   unfolding label_from names_at
   label-stands =
-      all-behind (LabelStands s at) space s at Missing _ tt
-      (λ a p i. all-behind (LabelStands s at) keyword s a Missing _ tt
-      (λ e q j. all-behind (LabelStands s at) (separated 46) s e Missing _ tt
-      (λ b r k. all-behind (LabelStands s at) keyword s b Missing _ tt
-      (λ f t l. all-behind (LabelStands s at) (separated 61) s f Missing _ tt
+      all-behind (LabelStands s at) space s at None _ tt
+      (λ a p i. all-behind (LabelStands s at) keyword s a None _ tt
+      (λ e q j. all-behind (LabelStands s at) (separated 46) s e None _ tt
+      (λ b r k. all-behind (LabelStands s at) keyword s b None _ tt
+      (λ f t l. all-behind (LabelStands s at) (separated 61) s f None _ tt
       (λ v u m. record { after = i; ptype = j; dot = k; property = l; equals = m; inside = ends-inside (separated 61) (separated-fits 61) s f v u m })))))
 
-  pub label-places : (a e b f v : ℕ) → Read a e b f v ≡ label_at s at → LabelPlaces s at a e b f v
-  label-places a e b f v h = subst (λ (m : Label). LabelStands s at m) (sym h) label-stands
+  pub label-places : (a e b f v : ℕ) → label_read a e b f v ≡ label_at s at → LabelPlaces s at a e b f v
+  label-places a e b f v h = subst (λ (m : Option Label). LabelStands s at m) (sym h) label-stands

@@ -1,6 +1,6 @@
 -- What the code's answers on reasons and labels say: these by their places, and the texts that stand there.
 use Prim.Native.Char.{code}
-use Rattle.std.specs.Prelude.{ℕ, true, false, List, drop}
+use Rattle.std.specs.Prelude.{ℕ, true, false, List, drop, Option, Some, None}
 use Rattle.base_readers.specs.Texts.{bytes}
 use Rattle.base_readers.specs.Readers.{Reader, passing}
 use Rattle.base_readers.specs.Parsers.{Got, nothing, got, Parser, ◌>>=◌, ◌>>◌, give}
@@ -13,7 +13,6 @@ use Rattle.lexis_rules.specs.Answers.{value_at}
 use Rattle.result_parts.specs.declared.Reason.{Reason}
 use Rattle.result_parts.specs.declared.Reason.TheVariants.{Stated, Absent}
 use Rattle.result_parts.specs.declared.Label.{Label}
-use Rattle.result_parts.specs.declared.Label.TheVariants as label
 use Rattle.result_rules.specs.Results.{separator}
 use Rattle.result_separators.specs.Separators.{spaced, separated, past, behind}
 use Rattle.base_sequences.specs.Spans.{span}
@@ -62,21 +61,26 @@ names = do
   separator (code "=")
   give (record { ptype = t; property = p })
 
+-- a ptype from a up to e, a property from b up to f, and the place v of the property value
+abbrev pub label_read : ℕ → ℕ → ℕ → ℕ → ℕ → Option Label
+label_read a e b f v = Some (record { type_start = a; type_end = e; name_start = b; name_end = f; value = v })
+
 -- "." at a place, a property and "=", behind a ptype from a up to e
-unfoldable pub names_at : List ℕ → ℕ → ℕ → Label
+unfoldable pub names_at : List ℕ → ℕ → ℕ → Option Label
 names_at s a e =
-    behind (separated (code ".")) s e label.Missing
-    (λ b. behind keyword s b label.Missing (λ f. behind (separated (code "=")) s f label.Missing (λ v. label.Read a e b f v)))
+    behind (separated (code ".")) s e None
+    (λ b. behind keyword s b None (λ f. behind (separated (code "=")) s f None (λ v. label_read a e b f v)))
 
 -- behind a part that ends at `at`, a ptype at the place a, and so on: not where that is the same place
-unfoldable pub label_from : List ℕ → ℕ → ℕ → Label
-label_from s at a = past at a label.Missing (λ a. behind keyword s a label.Missing (λ e. names_at s a e))
+unfoldable pub label_from : List ℕ → ℕ → ℕ → Option Label
+label_from s at a = past at a None (λ a. behind keyword s a None (λ e. names_at s a e))
 
 -- after non-empty space
-abbrev pub label_at : List ℕ → ℕ → Label
+abbrev pub label_at : List ℕ → ℕ → Option Label
 label_at s at = label_from s at (spaced s at)
 
 -- the texts of ptype and property that were found, and the place of the value
-abbrev pub label_got : List ℕ → Label → Got Names
-label_got s (label.Read a e b f v) = got (record { ptype = keyword_text (span s a e); property = keyword_text (span s b f) }) v
-label_got s label.Missing = nothing
+abbrev pub label_got : List ℕ → Option Label → Got Names
+label_got s (Some l) =
+    got (record { ptype = keyword_text (span s l.type_start l.type_end); property = keyword_text (span s l.name_start l.name_end) }) l.value
+label_got s None = nothing

@@ -5,6 +5,7 @@ ghost use Rattle.std.specs.Prelude.{◌≡◌, ◌+◌, drop};
 ghost use Rattle.result_parts.specs.Parts.{reason_word, stated_as, reason_from, label_from};
 
 use lexis_rules::Value;
+use result_separators::{past, separator_end};
 
 // Where the value of a reason stands: from `start` up to `end`, with its quotes where it is quoted.
 #[derive(Drop)]
@@ -64,7 +65,7 @@ pub fn reason_from(s: &[u8], at: usize, word: usize) -> Reason
     if word_end == word {
         return Reason::Absent;
     }
-    let value = result_separators::separator_end(s, word_end, b'=');
+    let value = separator_end(s, word_end, b'=');
     if value == word_end {
         return Reason::Absent;
     }
@@ -73,45 +74,28 @@ pub fn reason_from(s: &[u8], at: usize, word: usize) -> Reason
 
 // A ptype from `type_start` up to `type_end`, a property from `name_start` up to `name_end`, and the place of the property value.
 #[derive(Drop)]
-pub enum Label {
-    Read {
-        type_start: usize,
-        type_end: usize,
-        name_start: usize,
-        name_end: usize,
-        value: usize,
-    },
-    Missing,
+pub struct Label {
+    pub type_start: usize,
+    pub type_end: usize,
+    pub name_start: usize,
+    pub name_end: usize,
+    pub value: usize,
 }
 
-// What stands before a property value, behind a part that ends at a place, where the space behind it ends at `type_start`.
-pub fn label_from(s: &[u8], at: usize, type_start: usize) -> Label
-    ensures { result ≡ label_from s.now at type_start }
+// What stands before a property value, behind a part that ends at a place, where the space behind it ends at `a`.
+pub fn label_from(s: &[u8], at: usize, a: usize) -> Option<Label>
+    ensures { result ≡ label_from s.now at a }
 {
-    if type_start == at {
-        return Label::Missing;
-    }
-    let type_end = lexis_tokens::keyword_end(s, type_start);
-    if type_end == type_start {
-        return Label::Missing;
-    }
-    let name_start = result_separators::separator_end(s, type_end, b'.');
-    if name_start == type_end {
-        return Label::Missing;
-    }
-    let name_end = lexis_tokens::keyword_end(s, name_start);
-    if name_end == name_start {
-        return Label::Missing;
-    }
-    let value = result_separators::separator_end(s, name_end, b'=');
-    if value == name_end {
-        return Label::Missing;
-    }
-    Label::Read {
+    let type_start = past(at, a)?;
+    let type_end = past(type_start, lexis_tokens::keyword_end(s, type_start))?;
+    let name_start = past(type_end, separator_end(s, type_end, b'.'))?;
+    let name_end = past(name_start, lexis_tokens::keyword_end(s, name_start))?;
+    let value = past(name_end, separator_end(s, name_end, b'='))?;
+    Some(Label {
         type_start,
         type_end,
         name_start,
         name_end,
         value,
-    }
+    })
 }

@@ -4,7 +4,7 @@
 // itself where there is none.
 #![tactic(auto)]
 
-ghost use Rattle.std.specs.Prelude.{◌≡◌, ◌+◌, drop};
+ghost use Rattle.std.specs.Prelude.{◌≡◌, ◌≢◌, ◌+◌, drop, MatchOption};
 ghost use Rattle.result_rules.specs.Results.{next};
 ghost use Rattle.result_separators.specs.Separators.{separated, separated_from};
 
@@ -12,10 +12,17 @@ ghost use Rattle.result_separators.specs.Separators.{separated, separated_from};
 fn comes_next(s: &[u8], at: usize, b: u8) -> bool
     ensures { result ≡ next b (drop at s.now) }
 {
-    if at < s.len() {
-        return s[at] == b;
+    at < s.len() && s[at] == b
+}
+
+// The place behind what was taken at a place, if anything was: where nothing is taken both are the same.
+pub fn past(at: usize, end: usize) -> Option<usize>
+    ensures { MatchOption result (end ≡ at) (λ e. (e ≡ end) × (e ≢ at)) }
+{
+    if end == at {
+        return None;
     }
-    false
+    Some(end)
 }
 
 // The place after a byte between parts, with the space on both sides of it, and the place itself where there is no such byte.

@@ -1,6 +1,6 @@
 -- What the step reader answers: what stands behind a method, a reason or a property.
 use Prim.Native.Char.{code}
-use Rattle.std.specs.Prelude.{ℕ, Bool, true, false, List, eqb, drop}
+use Rattle.std.specs.Prelude.{ℕ, Bool, true, false, List, eqb, drop, Option, Some, None}
 use Rattle.base_readers.specs.Texts.{follows}
 use Rattle.base_readers.specs.Parsers.{Got, nothing, got}
 use Rattle.lexis_rules.specs.Pieces.{space}
@@ -8,9 +8,7 @@ use Rattle.lexis_rules.specs.Words.{keyword_text}
 use Rattle.result_steps.specs.declared.Step.{Step}
 use Rattle.result_steps.specs.declared.Step.TheVariants as step
 use Rattle.result_parts.specs.declared.Label.{Label}
-use Rattle.result_parts.specs.declared.Label.TheVariants as label
 use Rattle.result_values.specs.declared.Found.{Found}
-use Rattle.result_values.specs.declared.Found.TheVariants as found
 use Rattle.result_rules.specs.Results.{Property}
 use Rattle.result_separators.specs.Separators.{spaced}
 use Rattle.result_parts.specs.Parts.{label_from}
@@ -31,14 +29,14 @@ end_of true = step.Done
 end_of false = step.Refused
 
 -- a property whose names stand at these places, with the value that was found behind them
-abbrev pub property_of : ℕ → ℕ → ℕ → ℕ → Found → Step
-property_of a e b f (found.Read v x) = step.Property a e b f v x
-property_of a e b f found.Refused = step.Refused
+abbrev pub property_of : ℕ → ℕ → ℕ → ℕ → Option Found → Step
+property_of a e b f (Some w) = step.Property a e b f w.value w.end
+property_of a e b f None = step.Refused
 
 -- the step that this makes, where the space behind the part before it ends at x
-abbrev pub step_of : List ℕ → ℕ → Label → Step
-step_of s x (label.Read a e b f v) = property_of a e b f (value_at s v)
-step_of s x label.Missing = end_of (is_end (drop x s))
+abbrev pub step_of : List ℕ → ℕ → Option Label → Step
+step_of s x (Some l) = property_of l.type_start l.type_end l.name_start l.name_end (value_at s l.value)
+step_of s x None = end_of (is_end (drop x s))
 
 -- behind a part that ends at `at`, what stands at the place x
 abbrev pub step_from : List ℕ → ℕ → ℕ → Step

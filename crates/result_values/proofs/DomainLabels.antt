@@ -146,6 +146,11 @@ module _ (parted : Bool) (last at e : ℕ) where
     pub closed-other : r ≡ false → at ≡ closed_at parted last at e
     closed-other u = rw (t, ← h, u)
 
+-- where no dot was passed it doesn't matter where
+pub closed-same : (parted : Bool) (last at m n : ℕ) → (parted ≡ true → m ≡ n) → closed_at parted last at m ≡ closed_at parted last at n
+closed-same true last at m n h = ap (closed_at true last at) (h refl)
+closed-same false last at m n h = refl
+
 -- the bytes of a domain by the tests of `goes_on`
 in-domain-is : (x : ℕ) → in_domain x ≡ (alphanumeric x || eqb x 45 || eqb x 46)
 unfolding in_domain alphanumeric in_class

@@ -6,9 +6,9 @@ use Rattle.base_readers.specs.Texts.{bytes}
 use Rattle.base_readers.specs.Parsers.{nothing, got}
 use Rattle.base_readers.proofs.Cases.{case, Says, copies}
 use Rattle.result_values.specs.declared.Value.TheVariants as at
-use Rattle.result_values.specs.declared.Found.TheVariants.{Read, Refused}
+use Rattle.std.specs.Prelude.{None}
 use Rattle.result_rules.specs.Results.{Token, Quoted, Mailbox, AtDomain}
-use Rattle.result_values.specs.Values.{up_to, address_at, quoted_to, quoted_at, value_from, value_at, value_got}
+use Rattle.result_values.specs.Values.{read, up_to, address_at, quoted_to, quoted_at, value_from, value_at, value_got}
 use Rattle.result_rules.proofs.Unfolding.{opened}
 
 unfoldable placed : Unit {0}
@@ -18,16 +18,16 @@ placed = tt
 -- one of four kinds
 kinds :
     Says (λ t. value_at t 0)
-    (case (bytes "example.net") (Read (at.Token 0 11) 11)
-    ∷ case (bytes "a;b") (Read (at.Token 0 1) 1)
-    ∷ case (bytes "a/b") (Read (at.Token 0 1) 1)
-    ∷ case (bytes "a..b smtp.x=y") (Read (at.Token 0 4) 4)
-    ∷ case (bytes "\"a b\" ") (Read (at.Quoted 0 5) 5)
-    ∷ case (bytes "\"\";") (Read (at.Quoted 0 2) 2)
-    ∷ case (bytes "a.b@c.example") (Read (at.Mailbox 0 3 13 false) 13)
-    ∷ case (bytes "a/=?b@c.d;") (Read (at.Mailbox 0 5 9 false) 9)
-    ∷ case (bytes "\"a\\@b\"@c.d(x)") (Read (at.Mailbox 0 6 10 true) 10)
-    ∷ case (bytes "@c-d.1e ") (Read (at.AtDomain 0 7) 7)
+    (case (bytes "example.net") (read (at.Token 0 11) 11)
+    ∷ case (bytes "a;b") (read (at.Token 0 1) 1)
+    ∷ case (bytes "a/b") (read (at.Token 0 1) 1)
+    ∷ case (bytes "a..b smtp.x=y") (read (at.Token 0 4) 4)
+    ∷ case (bytes "\"a b\" ") (read (at.Quoted 0 5) 5)
+    ∷ case (bytes "\"\";") (read (at.Quoted 0 2) 2)
+    ∷ case (bytes "a.b@c.example") (read (at.Mailbox 0 3 13 false) 13)
+    ∷ case (bytes "a/=?b@c.d;") (read (at.Mailbox 0 5 9 false) 9)
+    ∷ case (bytes "\"a\\@b\"@c.d(x)") (read (at.Mailbox 0 6 10 true) 10)
+    ∷ case (bytes "@c-d.1e ") (read (at.AtDomain 0 7) 7)
     ∷ [])
 unfolding placed
 kinds = refl
@@ -35,25 +35,25 @@ kinds = refl
 -- there is nothing else to try
 refused :
     Says (λ t. value_at t 0)
-    (case [] Refused
-    ∷ case (bytes " a") Refused
-    ∷ case (bytes "=a") Refused
-    ∷ case (bytes "\"a") Refused
-    ∷ case (bytes ".a@b.c") Refused
-    ∷ case (bytes "a.@b.c") Refused
-    ∷ case (bytes "a..b@c.d") Refused
-    ∷ case (bytes ".@b.c") Refused
-    ∷ case (bytes "a@") Refused
-    ∷ case (bytes "a@b") Refused
-    ∷ case (bytes "a@b.") Refused
-    ∷ case (bytes "a@.b") Refused
-    ∷ case (bytes "a@b..c") Refused
-    ∷ case (bytes "a@-b.c") Refused
-    ∷ case (bytes "a@b-.c") Refused
-    ∷ case (bytes "a@b.c-") Refused
-    ∷ case (bytes "@b") Refused
-    ∷ case (bytes "\"a\"@b") Refused
-    ∷ case (bytes "a@\"b\"") Refused
+    (case [] None
+    ∷ case (bytes " a") None
+    ∷ case (bytes "=a") None
+    ∷ case (bytes "\"a") None
+    ∷ case (bytes ".a@b.c") None
+    ∷ case (bytes "a.@b.c") None
+    ∷ case (bytes "a..b@c.d") None
+    ∷ case (bytes ".@b.c") None
+    ∷ case (bytes "a@") None
+    ∷ case (bytes "a@b") None
+    ∷ case (bytes "a@b.") None
+    ∷ case (bytes "a@.b") None
+    ∷ case (bytes "a@b..c") None
+    ∷ case (bytes "a@-b.c") None
+    ∷ case (bytes "a@b-.c") None
+    ∷ case (bytes "a@b.c-") None
+    ∷ case (bytes "@b") None
+    ∷ case (bytes "\"a\"@b") None
+    ∷ case (bytes "a@\"b\"") None
     ∷ [])
 unfolding placed
 refused = refl
@@ -61,9 +61,9 @@ refused = refl
 -- at a place further on, and past the end
 further :
     Says (λ t. value_at t 14)
-    (case (bytes "smtp.mailfrom=a@b.c;") (Read (at.Mailbox 14 15 19 false) 19)
-    ∷ case (bytes "smtp.mailfrom=") Refused
-    ∷ case (bytes "a@b.c") Refused
+    (case (bytes "smtp.mailfrom=a@b.c;") (read (at.Mailbox 14 15 19 false) 19)
+    ∷ case (bytes "smtp.mailfrom=") None
+    ∷ case (bytes "a@b.c") None
     ∷ [])
 unfolding placed
 further = refl
@@ -82,6 +82,6 @@ unfolding placed
 texts = refl
 
 -- a long one
-long : value_at (copies 300 97 ++ (64 ∷ (copies 300 98 ++ bytes ".c"))) 0 ≡ Read (at.Mailbox 0 300 603 false) 603
+long : value_at (copies 300 97 ++ (64 ∷ (copies 300 98 ++ bytes ".c"))) 0 ≡ read (at.Mailbox 0 300 603 false) 603
 unfolding placed
 long = refl

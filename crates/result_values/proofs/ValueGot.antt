@@ -21,9 +21,9 @@ use Rattle.lexis_rules.specs.Words.{quoted_text}
 use Rattle.lexis_laws.proofs.Values.{quoted-text}
 use Rattle.result_values.specs.declared.Value as place
 use Rattle.result_values.specs.declared.Value.TheVariants as at
-use Rattle.result_values.specs.declared.Found.TheVariants.{Read, Refused}
+use Rattle.std.specs.Prelude.{None}
 use Rattle.result_rules.specs.Results.{Kind, Token, Quoted, Mailbox, Value, next, read_quoted, in_local_part, single_dots, is_local_part, domain, addressed, address, quoted_mailbox, quoted_value, token_value, at_behind, property_value}
-use Rattle.result_values.specs.Values.{up_to, mailbox_at, at_domain_at, address_at, quoted_to, quoted_at, token_at, value_from, value_at, value_of, value_got}
+use Rattle.result_values.specs.Values.{read, up_to, mailbox_at, at_domain_at, address_at, quoted_to, quoted_at, token_at, value_from, value_at, value_of, value_got}
 use Rattle.base_sequences.specs.Spans.{span}
 
 abbrev told : Kind → List ℕ → Value
@@ -208,8 +208,8 @@ value-got s at = go (eqb (get_or (drop sign s) 0 0) 64) refl
 
 module _ (s : List ℕ) (at : ℕ) where
   -- so a property value that the code finds is the one that is read
-  pub value_found : (v : place.Value) (e : ℕ) → Read v e ≡ value_at s at → Took property_value s at (value_of s v) e
+  pub value_found : (v : place.Value) (e : ℕ) → read v e ≡ value_at s at → Took property_value s at (value_of s v) e
   value_found v e h = took property_value s at (value_of s v) e (ap (value_got s) h ∙ value-got s at)
 
-  pub value_not : Refused ≡ value_at s at → property_value (drop at s) ≡ nothing
+  pub value_not : None ≡ value_at s at → property_value (drop at s) ≡ nothing
   value_not h = none-at property_value s at (ap (value_got s) h ∙ value-got s at)

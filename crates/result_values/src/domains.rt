@@ -4,6 +4,7 @@ ghost use Rattle.base_readers.specs.Readers.{run};
 ghost use Rattle.result_rules.specs.Results.{alphanumeric, in_local_part, single_dots, domain};
 ghost use Rattle.result_values.specs.Domains.{local_word, goes_on, closed_at};
 
+use base_runs::ByteTest;
 use lexis_rules::Class;
 
 // The bytes of local parts: a binary digit for each, the lowest first, 64 bytes to a word.
@@ -26,29 +27,30 @@ pub fn in_local_part(b: u8) -> bool
     (local_word(b) >> (b % 64)) % 2 == 1
 }
 
+// The bytes of a local part.
+#[derive(Drop)]
+struct LocalByte;
+
+impl ByteTest for LocalByte {
+    ghost passes = { λ t. in_local_part };
+
+    fn passes(&self, b: u8) -> bool {
+        in_local_part(b)
+    }
+}
+
 // The end of the run of bytes of a local part.
 pub fn local_end(s: &[u8], at: usize) -> usize
     ensures { result ≡ at + run in_local_part (drop at s.now) }
 {
-    let mut i = at;
-    while i < s.len() {
-        if in_local_part(s[i]) {
-            i += 1;
-        } else {
-            return i;
-        }
-    }
-    i
+    LocalByte.run_end(s, at)
 }
 
 // Whether a byte is a dot that follows a dot, or the front.
 fn is_doubled(dot: bool, b: u8) -> bool
     ensures { result ≡ (dot && eqb b 46) }
 {
-    if dot {
-        return b == b'.';
-    }
-    false
+    dot && b == b'.'
 }
 
 // Whether a text isn't empty and has no leading, trailing or doubled dot.
@@ -56,15 +58,11 @@ pub fn has_single_dots(l: &[u8]) -> bool
     ensures { result ≡ single_dots true l.now }
 {
     let mut dot = true;
-    let mut i: usize = 0;
-    while i < l.len() {
-        let b = l[i];
+    for &b in l {
         if is_doubled(dot, b) {
             return false;
-        } else {
-            dot = b == b'.';
-            i += 1;
         }
+        dot = b == b'.';
     }
     !dot
 }
@@ -99,20 +97,15 @@ fn goes_on(before: u8, b: u8) -> bool
 fn is_parted(seen: bool, b: u8) -> bool
     ensures { result ≡ (seen || eqb b 46) }
 {
-    if seen {
-        return true;
-    }
-    b == b'.'
+    seen || b == b'.'
 }
 
 // Where a domain that started at a place ends: at e, if its labels are two or more and the last byte may end one; else there is none.
 fn closed_at(parted: bool, last: u8, at: usize, e: usize) -> usize
     ensures { result ≡ closed_at parted last at e }
 {
-    if parted {
-        if is_alphanumeric(last) {
-            return e;
-        }
+    if parted && is_alphanumeric(last) {
+        return e;
     }
     at
 }
@@ -124,16 +117,13 @@ pub fn domain_end(s: &[u8], at: usize) -> usize
 {
     let mut last = b'.';
     let mut parted = false;
-    let mut i = at;
-    while i < s.len() {
+    for i in at..s.len() {
         let b = s[i];
-        if goes_on(last, b) {
-            parted = is_parted(parted, b);
-            last = b;
-            i += 1;
-        } else {
+        if !goes_on(last, b) {
             return closed_at(parted, last, at, i);
         }
+        parted = is_parted(parted, b);
+        last = b;
     }
-    closed_at(parted, last, at, i)
+    closed_at(parted, last, at, s.len())
 }

@@ -1,7 +1,7 @@
 // Property values (RFC 8601: pvalue): a token, a quoted string, a mailbox or an at-domain.
 //
 // A reader is handed a slice and a place, any place, also past the end. Where no property value starts there, or the one that starts is
-// bad, the answer is `Refused`: there is nothing else to try, and the body is not well-formed (number 9). Each byte is looked at a bounded
+// bad, the answer is none: there is nothing else to try, and the body is not well-formed (number 9). Each byte is looked at a bounded
 // number of times.
 #![tactic(auto)]
 
@@ -34,23 +34,23 @@ pub enum Value {
     },
 }
 
-// A property value, with the place after it.
+// A property value that was read, with the place after it.
 #[derive(Drop)]
-pub enum Found {
-    Read { value: Value, end: usize },
-    Refused,
+pub struct Found {
+    pub value: Value,
+    pub end: usize,
 }
 
 // The mailbox whose local part starts at a place and whose "@" is at another.
-fn mailbox_at(s: &[u8], start: usize, sign: usize, quoted: bool) -> Found
+fn mailbox_at(s: &[u8], start: usize, sign: usize, quoted: bool) -> Option<Found>
     requires { sign < length s.now }
     ensures { result ≡ mailbox_at s.now start sign quoted }
 {
     let e = domains::domain_end(s, sign + 1);
     if e == sign + 1 {
-        return Found::Refused;
+        return None;
     }
-    Found::Read {
+    Some(Found {
         value: Value::Mailbox {
             start,
             sign,
@@ -58,29 +58,29 @@ fn mailbox_at(s: &[u8], start: usize, sign: usize, quoted: bool) -> Found
             quoted,
         },
         end: e,
-    }
+    })
 }
 
 // The at-domain whose "@" is at a place.
-fn at_domain_at(s: &[u8], sign: usize) -> Found
+fn at_domain_at(s: &[u8], sign: usize) -> Option<Found>
     requires { sign < length s.now }
     ensures { result ≡ at_domain_at s.now sign }
 {
     let e = domains::domain_end(s, sign + 1);
     if e == sign + 1 {
-        return Found::Refused;
+        return None;
     }
-    Found::Read {
+    Some(Found {
         value: Value::AtDomain {
             start: sign,
             end: e,
         },
         end: e,
-    }
+    })
 }
 
 // The address of a run of bytes of a local part, which may be empty, and the "@" behind it.
-fn address_at(s: &[u8], at: usize, sign: usize) -> Found
+fn address_at(s: &[u8], at: usize, sign: usize) -> Option<Found>
     requires { (at ≤ sign) × (sign < length s.now) }
     ensures { result ≡ address_at s.now at sign }
 {
@@ -90,28 +90,28 @@ fn address_at(s: &[u8], at: usize, sign: usize) -> Found
     if domains::has_single_dots(&s[at..sign]) {
         return mailbox_at(s, at, sign, false);
     }
-    Found::Refused
+    None
 }
 
 // The quoted string at a place, or the mailbox that it starts.
-fn quoted_at(s: &[u8], at: usize) -> Found
+fn quoted_at(s: &[u8], at: usize) -> Option<Found>
     ensures { result ≡ quoted_at s.now at }
 {
     let e = lexis_tokens::quoted_end(s, at);
     if e == at {
-        return Found::Refused;
+        return None;
     }
     if base_readers::is_at(s, e, 0, b'@') {
         return mailbox_at(s, at, e, true);
     }
-    Found::Read {
+    Some(Found {
         value: Value::Quoted { start: at, end: e },
         end: e,
-    }
+    })
 }
 
 // The property value at a place. The bytes of a token may all stand in a local part, so the local part goes on where the token ends.
-pub fn value_at(s: &[u8], at: usize) -> Found
+pub fn value_at(s: &[u8], at: usize) -> Option<Found>
     ensures { result ≡ value_at s.now at }
 {
     let e = lexis_tokens::token_end(s, at);
@@ -123,10 +123,10 @@ pub fn value_at(s: &[u8], at: usize) -> Found
         return quoted_at(s, at);
     }
     if e == at {
-        return Found::Refused;
+        return None;
     }
-    Found::Read {
+    Some(Found {
         value: Value::Token { start: at, end: e },
         end: e,
-    }
+    })
 }

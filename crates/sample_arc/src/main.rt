@@ -51,24 +51,17 @@ fn one_case(rt: &(impl Env + Files + Print), block: usize, verdicts: usize) {
     let mut bytes = [0u8; MOST];
     let file = arguments::read_file(rt, block, &mut bytes);
     let mut text = buffers::line();
-    let m = arguments::text_of(rt, verdicts, &mut text);
+    let m = command_files::argument(rt, verdicts, &mut text);
     arguments::put(rt, &text[..m]);
-    if !file.found {
+    let Some(n) = file else {
         arguments::put(rt, b": no file\n");
         return;
-    }
-    let n = file.length;
+    };
     run(rt, &bytes[..n], &text[..m]);
     arguments::put(rt, b"\n");
 }
 
 // Runs one case after the other.
 fn main(rt: HostRuntime) {
-    let n = arguments::count(&rt);
-    for i in (1..n).step_by(2) {
-        if n - i < 2 {
-            return;
-        }
-        one_case(&rt, i, i + 1);
-    }
+    arguments::each_case(&rt, 2, |i| one_case(&rt, i, i + 1));
 }

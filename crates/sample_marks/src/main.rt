@@ -48,24 +48,10 @@ fn mark_into(rt: &impl Print, block: &[u8], list: &[u8], out: &mut [u8]) {
     put_marked(rt, r, out);
 }
 
-// Marks into so many lent bytes, each 170, and writes the answer.
-fn run_mark(rt: &impl Print, block: &[u8], list: &[u8], room: usize) {
-    let mut out = buffers::untouched();
-    let lent = sample_support::front(&out, room);
-    mark_into(rt, block, list, &mut out[..lent]);
-}
-
 // Copies into the lent bytes, and writes the answer and what holds of them.
 fn copy_into(rt: &impl Print, block: &[u8], list: &[u8], marks: &[u8], out: &mut [u8]) {
     let r = strip::copy(block, list, marks, out);
     put_copied(rt, r, out);
-}
-
-// Copies into so many lent bytes, each 170, and writes the answer.
-fn run_copy(rt: &impl Print, block: &[u8], list: &[u8], marks: &[u8], room: usize) {
-    let mut out = buffers::untouched();
-    let lent = sample_support::front(&out, room);
-    copy_into(rt, block, list, marks, &mut out[..lent]);
 }
 
 // One case: the number of each of its five arguments.
@@ -86,39 +72,23 @@ fn one_case(
     let mark_room = arguments::room_of(rt, mark_lent, MOST);
     arguments::put(rt, b" ");
     let copy_room = arguments::room_of(rt, copy_lent, MOST);
-    if !block_file.found {
+    let (Some(n), Some(m), Some(k)) = (block_file, list_file, marks_file) else {
         arguments::put(rt, b": no file\n");
         return;
-    }
-    if !list_file.found {
-        arguments::put(rt, b": no file\n");
-        return;
-    }
-    if !marks_file.found {
-        arguments::put(rt, b": no file\n");
-        return;
-    }
-    let n = block_file.length;
-    let m = list_file.length;
-    let k = marks_file.length;
-    run_mark(rt, &block_bytes[..n], &list_bytes[..m], mark_room);
-    run_copy(
-        rt,
-        &block_bytes[..n],
-        &list_bytes[..m],
-        &marks_bytes[..k],
-        copy_room,
-    );
+    };
+    let given = &block_bytes[..n];
+    let own = &list_bytes[..m];
+    let gone = &marks_bytes[..k];
+    let mut left = buffers::untouched();
+    buffers::lend(&mut left, mark_room, |out| mark_into(rt, given, own, out));
+    let mut kept = buffers::untouched();
+    buffers::lend(&mut kept, copy_room, |out| {
+        copy_into(rt, given, own, gone, out)
+    });
     arguments::put(rt, b"\n");
 }
 
 // Runs one case after the other.
 fn main(rt: HostRuntime) {
-    let n = arguments::count(&rt);
-    for i in (1..n).step_by(5) {
-        if n - i < 5 {
-            return;
-        }
-        one_case(&rt, i, i + 1, i + 2, i + 3, i + 4);
-    }
+    arguments::each_case(&rt, 5, |i| { one_case(&rt, i, i + 1, i + 2, i + 3, i + 4) });
 }

@@ -61,17 +61,9 @@ fn written(length: usize) -> usize {
     length
 }
 
-// 1 for yes, 0 for no.
-fn number_if(b: bool) -> u64 {
-    if b {
-        return 1;
-    }
-    0
-}
-
 // Spells into the lent bytes, and writes the answers and what holds of them.
 fn spell_into(rt: &impl Print, text: &[u8], out: &mut [u8]) {
-    let double = number_if(punycode_hyphens::has_double_hyphen(text));
+    let double = u64::from(punycode_hyphens::has_double_hyphen(text));
     let length = punycode::spell(text, out);
     let mut line = buffers::line();
     let a = lines::put_number(b": double hyphen ", double, &mut line, 0);
@@ -80,25 +72,10 @@ fn spell_into(rt: &impl Print, text: &[u8], out: &mut [u8]) {
     put_bytes(rt, out, written(length));
 }
 
-// Decodes or spells.
-fn run_into(rt: &impl Print, decoding: bool, s: &[u8], out: &mut [u8]) {
-    if decoding {
-        return decode_into(rt, s, out);
-    }
-    spell_into(rt, s, out);
-}
-
-// Decodes or spells into so many lent bytes, each 170, and writes the answer.
-fn run(rt: &impl Print, decoding: bool, s: &[u8], room: usize) {
-    let mut out = [170u8; MOST_LENT];
-    let lent = sample_support::front(&out, room);
-    run_into(rt, decoding, s, &mut out[..lent]);
-}
-
 // Whether an argument names a label, not a text.
 fn is_label(rt: &impl Env, argument: usize) -> bool {
     let mut path = buffers::line();
-    let n = arguments::text_of(rt, argument, &mut path);
+    let n = command_files::argument(rt, argument, &mut path);
     base_readers::is_at(&path[..n], 0, 0, b'd')
 }
 
@@ -107,22 +84,21 @@ fn one_case(rt: &(impl Env + Files + Print), named: usize, lent: usize) {
     let mut bytes = [0u8; MOST];
     let file = arguments::read_file(rt, named, &mut bytes);
     let room = arguments::room_of(rt, lent, MOST_LENT);
-    if !file.found {
+    let Some(n) = file else {
         arguments::put(rt, b": no file\n");
         return;
+    };
+    let s = &bytes[..n];
+    let mut out = [170u8; MOST_LENT];
+    if is_label(rt, named) {
+        buffers::lend(&mut out, room, |out| decode_into(rt, s, out));
+    } else {
+        buffers::lend(&mut out, room, |out| spell_into(rt, s, out));
     }
-    let n = file.length;
-    run(rt, is_label(rt, named), &bytes[..n], room);
     arguments::put(rt, b"\n");
 }
 
 // Runs one case after the other.
 fn main(rt: HostRuntime) {
-    let n = arguments::count(&rt);
-    for i in (1..n).step_by(2) {
-        if n - i < 2 {
-            return;
-        }
-        one_case(&rt, i, i + 1);
-    }
+    arguments::each_case(&rt, 2, |i| one_case(&rt, i, i + 1));
 }

@@ -42,34 +42,22 @@ fn report_into(rt: &impl Print, body: &[u8], out: &mut [u8]) {
     put_answer(rt, r, out);
 }
 
-// Reports a body into so many lent bytes, each 170, and writes the answer.
-fn run(rt: &impl Print, body: &[u8], room: usize) {
-    let mut out = buffers::untouched();
-    let lent = sample_support::front(&out, room);
-    report_into(rt, body, &mut out[..lent]);
-}
-
 // One case: the number of each of its two arguments.
 fn one_case(rt: &(impl Env + Files + Print), body: usize, lent: usize) {
     let mut bytes = [0u8; MOST];
     let file = arguments::read_file(rt, body, &mut bytes);
     let room = arguments::room_of(rt, lent, MOST_LENT);
-    if !file.found {
+    let Some(n) = file else {
         arguments::put(rt, b": no file\n");
         return;
-    }
-    let n = file.length;
-    run(rt, &bytes[..n], room);
+    };
+    let body = &bytes[..n];
+    let mut out = buffers::untouched();
+    buffers::lend(&mut out, room, |out| report_into(rt, body, out));
     arguments::put(rt, b"\n");
 }
 
 // Runs one case after the other.
 fn main(rt: HostRuntime) {
-    let n = arguments::count(&rt);
-    for i in (1..n).step_by(2) {
-        if n - i < 2 {
-            return;
-        }
-        one_case(&rt, i, i + 1);
-    }
+    arguments::each_case(&rt, 2, |i| one_case(&rt, i, i + 1));
 }

@@ -28,7 +28,7 @@ fn put_answer(rt: &impl Print, r: Stripped, out: &[u8]) {
     arguments::put(rt, &line[..n]);
 }
 
-// Marks the fields that go, with room for as many as there may be, and copies the rest.
+// Marks the fields that go, with room for as many as there may be, and copies the rest. The command has these lines for itself: this program tries the calls.
 fn strip_in_steps(block: &[u8], list: &[u8], out: &mut [u8]) -> Stripped {
     let mut marks = strip_rooms::marks();
     let m = strip::mark(block, list, &mut marks);
@@ -51,13 +51,6 @@ fn strip_into(rt: &impl Print, block: &[u8], list: &[u8], out: &mut [u8]) {
     put_answer(rt, r, out);
 }
 
-// Strips into so many lent bytes, each 170, and writes the answer.
-fn run(rt: &impl Print, block: &[u8], list: &[u8], room: usize) {
-    let mut out = buffers::untouched();
-    let lent = sample_support::front(&out, room);
-    strip_into(rt, block, list, &mut out[..lent]);
-}
-
 // One case: the number of each of its three arguments.
 fn one_case(rt: &(impl Env + Files + Print), block: usize, list: usize, lent: usize) {
     let mut block_bytes = [0u8; MOST];
@@ -65,27 +58,18 @@ fn one_case(rt: &(impl Env + Files + Print), block: usize, list: usize, lent: us
     let mut list_bytes = [0u8; 32768];
     let list_file = arguments::read_file(rt, list, &mut list_bytes);
     let room = arguments::room_of(rt, lent, MOST);
-    if !block_file.found {
+    let (Some(n), Some(m)) = (block_file, list_file) else {
         arguments::put(rt, b": no file\n");
         return;
-    }
-    if !list_file.found {
-        arguments::put(rt, b": no file\n");
-        return;
-    }
-    let n = block_file.length;
-    let m = list_file.length;
-    run(rt, &block_bytes[..n], &list_bytes[..m], room);
+    };
+    let given = &block_bytes[..n];
+    let own = &list_bytes[..m];
+    let mut out = buffers::untouched();
+    buffers::lend(&mut out, room, |out| strip_into(rt, given, own, out));
     arguments::put(rt, b"\n");
 }
 
 // Runs one case after the other.
 fn main(rt: HostRuntime) {
-    let n = arguments::count(&rt);
-    for i in (1..n).step_by(3) {
-        if n - i < 3 {
-            return;
-        }
-        one_case(&rt, i, i + 1, i + 2);
-    }
+    arguments::each_case(&rt, 3, |i| one_case(&rt, i, i + 1, i + 2));
 }

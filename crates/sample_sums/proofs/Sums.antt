@@ -1,20 +1,9 @@
--- The loops over bytes: the sum and the count from a place on, with what stands so far, are those of the whole list. One turn and the end of
--- each, by the definition's one step.
-use Prim.Native.Nat.{ℕ, suc, ◌+◌, ◌*◌, ◌%◌, ◌≤◌, ◌<◌, ◌^◌}
-use native.Mathlib.Numerals.{add-one}
-use native.Mathlib.Omega.{arith}
-use mathlib.Core.Path.{◌≡◌, refl, ◌∙◌}
-use mathlib.Core.Bool.{Bool, true, false, cond}
-use mathlib.Core.List.{List}
-use lib.Dec.{eqb}
-use lib.ListN.{length, get_or, drop, drop_of_length-le}
-use lib.Seq.{drop-cons}
-use borrow.Author.Tests.{eq-eqb, ne_eqb}
-use mir.Syntax.{w64}
-use mir.Val.{Fits}
+-- The sum from a place on, with the two halves so far, is that of the whole list: one turn and the end, by the definition's one step. The count of the
+-- definition is the library's.
+use Rattle.std.proofs.Common.{ℕ, ◌+◌, ◌*◌, ◌%◌, ◌≤◌, ◌<◌, ◌≡◌, Bool, true, false, cond, not, List, nat_eq, refl, sym, ◌∙◌, length, get_or, drop, drop_of_length-le, drop-cons, add-one, arith}
+use Rattle.std.specs.List.{count_by}
+use Rattle.std.proofs.lemmas.List.Recursion.{is_count_by}
 use Rattle.sample_sums.specs.Sums.{sums, adler, changed}
-
--- ==== the Adler-32 sum
 
 module _ (s : List ℕ) (low high i : ℕ) (w : sums low high (drop i s) ≡ adler s) where
   pub sums-more : i < length s → (x : ℕ) → x ≡ get_or s i 0 → sums ((low + x) % 65521) ((high + (low + x) % 65521) % 65521) (drop (i + 1) s) ≡ adler s
@@ -25,33 +14,10 @@ module _ (s : List ℕ) (low high i : ℕ) (w : sums low high (drop i s) ≡ adl
   unfolding sums
   sums-end h = rw (drop_of_length-le s h) at w
 
--- ==== changed bytes
+one_or_none : (t : Bool) (n : ℕ) → cond t 0 1 + n ≡ cond (not t) (1 + n) n
+one_or_none true n = omega arith
+one_or_none false n = omega arith
 
-pub differs-not : (b : ℕ) → b ≡ 170 → ◌≡◌ {A = ℕ} 0 (cond (eqb b 170) 0 1)
-differs-not b e = rw (eq-eqb b 170 e)
-
-pub differs-so : (b : ℕ) → (b ≡ 170 → ⊥) → ◌≡◌ {A = ℕ} 1 (cond (eqb b 170) 0 1)
-differs-so b ne = rw (ne_eqb b 170 ne)
-
--- a byte counts at most 1, so the count is no larger than the place
-module _ (b count i d : ℕ) (e : d ≡ cond (eqb b 170) 0 1) (l : count ≤ i) where
-  pub counted-more : count + d ≤ i + 1
-  counted-more = go (eqb b 170) refl
-    where
-      go : (t : Bool) → eqb b 170 ≡ t → count + d ≤ i + 1
-      go true q = let z : d ≡ 0 = e ∙ rw q in omega arith
-      go false q = let z : d ≡ 1 = e ∙ rw q in omega arith
-
-  pub counted : (n : ℕ) → i < n → n < 2 ^ 64 → Fits w64 (count + d)
-  counted n h k = omega (arith, counted-more)
-
-module _ (s : List ℕ) (count i : ℕ) (w : count + changed (drop i s) ≡ changed s) where
-  pub changed-more : i < length s → (d : ℕ) → d ≡ cond (eqb (get_or s i 0) 170) 0 1 → count + d + changed (drop (i + 1) s) ≡ changed s
-  unfolding changed
-  changed-more h d e =
-      let p : count + (cond (eqb (get_or s i 0) 170) 0 1 + changed (drop (suc i) s)) ≡ changed s = rw (drop-cons s i 0 h) at w in
-      rw (e, add-one) (omega (arith, p))
-
-  pub changed-end : length s ≤ i → count ≡ changed s
-  unfolding changed
-  changed-end h = omega (arith, rw (drop_of_length-le s h) at w)
+pub changed-counts : (s : List ℕ) (n : ℕ) → n ≡ count_by (λ b. not (nat_eq b 170)) s → n ≡ changed s
+unfolding changed
+changed-counts s n e = e ∙ sym (is_count_by changed (λ b. not (nat_eq b 170)) refl (λ x xs. one_or_none (nat_eq x 170) (changed xs)) s)

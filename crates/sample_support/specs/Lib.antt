@@ -1,3 +1,2 @@
 pub mod Samples
 pub mod Lines
-pub mod Arguments

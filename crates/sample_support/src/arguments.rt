@@ -3,52 +3,36 @@
 //
 //   read_file(rt, argument, buf)    writes the name of a file and a space, and reads it
 //   room_of(rt, argument, most)     writes a number, and returns it, cut at the most
-//   text_of(rt, argument, buf)      writes nothing: the bytes of an argument
-//   count(rt)                       how many arguments there are
+//   each_case(rt, size, one_case)   runs the cases of the program, each of so many arguments
 //   put(rt, text)                   writes a text
 //
 // What went to standard output no contract can say, and a write that fails is not told: the line is then another one than is expected. Each takes any number of an
 // argument; one that is missing, or longer than 4,096 bytes, is empty. A file whose name is not UTF-8 is not there, as std has it.
-ghost use Rattle.std.specs.Prelude.{◌≤◌};
-ghost use Rattle.sample_support.specs.Arguments.{Read};
+ghost use Rattle.std.specs.Prelude.{ℕ, ◌≤◌, ◌+◌, ◌<◌, ◌^◌, IfSome};
 ghost use Rattle.sample_support.specs.Samples.{Front};
 
-use std::env::FillError;
 use std::io::Read;
 use std::rt::{Env, Files};
 use std::{fs, str};
-
-// What came of reading: whether there is such a file, and how many of its bytes stand at the front of the buffer.
-#[derive(Drop)]
-pub struct Input {
-    pub found: bool,
-    pub length: usize,
-}
 
 // Writes a text to standard output.
 pub fn put(rt: &impl Print, text: &[u8]) {
     let _ = rt.write_all(text);
 }
 
-// How many arguments there are, with the name of the program.
-pub fn count(rt: &impl Env) -> usize {
-    for argument in 0..usize::MAX {
-        match rt.arg(argument, &mut []) {
-            Err(FillError::NotPresent) => return argument,
-            Err(FillError::TooLong) => {}
-            Ok(_) => {}
-        }
-    }
-    usize::MAX
-}
-
-// Puts the bytes of an argument at the front of the buffer, and returns how many they are.
-pub fn text_of(rt: &impl Env, argument: usize, buf: &mut [u8]) -> usize
-    ensures { Front result buf.new }
+// Runs the cases of the program, one after the other, each of so many arguments: `one_case` is handed the number of the first of them. What is left over is no case.
+pub fn each_case<F: Fn(usize)>(rt: &impl Env, size: usize, one_case: F)
+    requires { (first : ℕ) → first + size < 2 ^ 64 → F.pre one_case first }
 {
-    match rt.arg(argument, buf) {
-        Ok(n) => n,
-        Err(_) => 0,
+    let n = command_files::argument_count(rt);
+    if size == 0 {
+        return;
+    }
+    for first in (1..n).step_by(size) {
+        if n - first < size {
+            return;
+        }
+        one_case(first);
     }
 }
 
@@ -76,25 +60,17 @@ fn open<R: Files>(rt: &R, path: &[u8]) -> Option<R::File> {
     fs::open(rt, name).ok()
 }
 
-// Reads the file that an argument names until the buffer is full, the file ends or a read fails.
-pub fn read_file<R: Env + Files + Print>(rt: &R, argument: usize, buf: &mut [u8]) -> Input
-    ensures { Read result buf.new }
+// Reads the file that an argument names until the buffer is full, the file ends or a read fails, and returns how many of its bytes stand at the front of the buffer;
+// `None` where there is no such file.
+pub fn read_file<R: Env + Files + Print>(rt: &R, argument: usize, buf: &mut [u8]) -> Option<usize>
+    ensures { IfSome result (λ n. Front n buf.new) }
 {
     let mut path = super::buffers::line();
-    let n = text_of(rt, argument, &mut path);
+    let n = command_files::argument(rt, argument, &mut path);
     put(rt, &path[..n]);
     put(rt, b" ");
-    let Some(mut file) = open(rt, &path[..n]) else {
-        return Input {
-            found: false,
-            length: 0,
-        };
-    };
-    let length = read_front(&mut file, buf);
-    Input {
-        found: true,
-        length,
-    }
+    let mut file = open(rt, &path[..n])?;
+    Some(read_front(&mut file, buf))
 }
 
 // The number of bytes that an argument tells, at most so many.
@@ -102,7 +78,7 @@ pub fn room_of<R: Env + Print>(rt: &R, argument: usize, most: usize) -> usize
     ensures { result ≤ most }
 {
     let mut text = super::buffers::line();
-    let n = text_of(rt, argument, &mut text);
+    let n = command_files::argument(rt, argument, &mut text);
     put(rt, &text[..n]);
     super::number_of(&text[..n], most)
 }

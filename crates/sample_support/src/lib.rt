@@ -19,10 +19,7 @@ pub fn front(s: &[u8], n: usize) -> usize
     ensures value { result ≡ min n (length s.now) }
     ensures front { Front result s.now }
 {
-    if n < s.len() {
-        return n;
-    }
-    s.len()
+    n.min(s.len())
 }
 
 // Whether a byte is from a to z.
@@ -35,28 +32,12 @@ fn is_within(b: u8, a: u8, z: u8) -> bool
     b <= z
 }
 
-// The value of a digit: how far the byte is past "0"; 0 for a byte before it.
-fn value(b: u8) -> u8
-    ensures { result ≡ b - 48 }
+// Ten times a number and a digit's value, cut at the most. The value is how far the byte is past "0", and 0 for a byte before it.
+fn with_digit(n: usize, b: u8, most: usize) -> usize
+    ensures { result ≡ min (n * 10 + (b - 48)) most }
 {
-    if b < b'0' {
-        return 0;
-    }
-    b - b'0'
-}
-
-// Ten times a number and a digit's value, cut at the most.
-fn with_digit(n: usize, digit: u8, most: usize) -> usize
-    ensures { result ≡ min (n * 10 + digit) most }
-{
-    if n > most / 10 {
-        return most;
-    }
-    let d = digit as usize;
-    if d > most - n * 10 {
-        return most;
-    }
-    n * 10 + d
+    let value = usize::from(b.saturating_sub(b'0'));
+    n.saturating_mul(10).saturating_add(value).min(most)
 }
 
 // The number that decimal digits tell, cut at the most; a byte that is no digit counts by its distance from "0".
@@ -64,10 +45,8 @@ pub fn number_of(s: &[u8], most: usize) -> usize
     ensures { result ≡ min (number 0 s.now) most }
 {
     let mut n: usize = 0;
-    let mut i: usize = 0;
-    while i < s.len() {
-        n = with_digit(n, value(s[i]), most);
-        i += 1;
+    for b in s {
+        n = with_digit(n, *b, most);
     }
     n
 }
@@ -122,10 +101,8 @@ pub fn shown(s: &[u8], out: &mut [u8]) -> usize
     ensures front { Front result out.new }
 {
     let mut n: usize = 0;
-    let mut i: usize = 0;
-    while i < s.len() {
-        n = put_shown(s[i], out, n);
-        i += 1;
+    for b in s {
+        n = put_shown(*b, out, n);
     }
     n
 }
@@ -136,15 +113,11 @@ pub fn digits(text: &[u8], out: &mut [u8]) -> usize
     ensures front { Front result out.new }
 {
     let mut n: usize = 0;
-    let mut i: usize = 0;
-    while i < text.len() {
-        let b = text[i];
-        if is_within(b, b'0', b'9') {
-            n = put(value(b), out, n);
-            i += 1;
-        } else {
+    for b in text {
+        if !is_within(*b, b'0', b'9') {
             return n;
         }
+        n = put(b.saturating_sub(b'0'), out, n);
     }
     n
 }

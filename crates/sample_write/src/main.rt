@@ -72,34 +72,22 @@ fn write_into(rt: &impl Print, given: &[u8], out: &mut [u8]) {
     read_back(rt, given, out, w);
 }
 
-// Writes the body of the given lines into so many lent bytes, each 170, and says the answer.
-fn run(rt: &impl Print, given: &[u8], room: usize) {
-    let mut out = buffers::untouched();
-    let lent = sample_support::front(&out, room);
-    write_into(rt, given, &mut out[..lent]);
-}
-
 // One case: the number of each of its two arguments.
 fn one_case(rt: &(impl Env + Files + Print), given: usize, lent: usize) {
     let mut bytes = buffers::zeros();
     let file = arguments::read_file(rt, given, &mut bytes);
     let room = arguments::room_of(rt, lent, MOST_LENT);
-    if !file.found {
+    let Some(n) = file else {
         arguments::put(rt, b": no file\n");
         return;
-    }
-    let n = file.length;
-    run(rt, &bytes[..n], room);
+    };
+    let lines = &bytes[..n];
+    let mut out = buffers::untouched();
+    buffers::lend(&mut out, room, |out| write_into(rt, lines, out));
     arguments::put(rt, b"\n");
 }
 
 // Runs one case after the other.
 fn main(rt: HostRuntime) {
-    let n = arguments::count(&rt);
-    for i in (1..n).step_by(2) {
-        if n - i < 2 {
-            return;
-        }
-        one_case(&rt, i, i + 1);
-    }
+    arguments::each_case(&rt, 2, |i| one_case(&rt, i, i + 1));
 }

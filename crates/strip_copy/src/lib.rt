@@ -11,20 +11,15 @@ ghost use Rattle.strip_copy.specs.Unmarked.{unmarked};
 pub fn put_unmarked(s: &[u8], stops: &[usize], marks: &[u8], out: &mut [u8], start: usize) -> usize
     ensures { Clipped out.old start (unmarked s.now 0 0 stops.now marks.now) out.new result }
 {
-    let mut k: usize = 0;
     let mut from: usize = 0;
     let mut at: usize = 0;
     let mut to = start;
-    while k < stops.len() {
-        if base_readers::is_at(marks, k, 0, 0) {
-            at = text_parts::places::place(stops, k);
-            k += 1;
-        } else {
+    for (k, &stop) in stops.iter().enumerate() {
+        if !base_readers::is_at(marks, k, 0, 0) {
             to = text_write::put_part(text_parts::part(s, from, at), out, to);
-            from = text_parts::places::place(stops, k);
-            at = from;
-            k += 1;
+            from = stop;
         }
+        at = stop;
     }
     text_write::put_part(text_parts::part(s, from, at), out, to)
 }

@@ -19,6 +19,7 @@ ghost use Rattle.strip_fields.specs.Sifting.{Sifts};
 ghost use Rattle.strip_lists.specs.Walk.{listed_by, fields_by};
 
 use ownlist_check::Entries;
+use ownlist_lines::Lines;
 use ownlist_ready::Ready;
 use strip_fields::Sifted;
 
@@ -29,7 +30,11 @@ fn sift_lines(s: &[u8], own: &[u8], marks: &mut [u8], stops: &mut [usize]) -> Si
 {
     let mut ends = [0usize; Entries::ENTRIES];
     let n = ownlist_lines::ends::line_ends(own, &mut ends);
-    strip_fields::sift(s, own, &ends[..n], marks, stops)
+    let lines = Lines {
+        own,
+        ends: &ends[..n],
+    };
+    strip_fields::sift(s, &lines, marks, stops)
 }
 
 // Goes over the block by a list that has to be spelled first.

@@ -24,10 +24,10 @@ use Rattle.lexis_rules.specs.Pieces.{item, bare_space}
 use Rattle.lexis_laws.proofs.Pieces.{item-fits}
 use Rattle.lexis_classes.proofs.Loops.{items-on, items-off}
 use Rattle.tag.specs.declared.Tag as found
-use Rattle.tag.specs.declared.Tag.TheVariants.{Read, Missing}
+use Rattle.std.specs.Prelude.{Option, None}
 use Rattle.tag_rules.specs.Tags as tags
 use Rattle.tag_rules.specs.Tags.{skip_bare, in_tag_name, tag_name, tag_value, trimmed, tag}
-use Rattle.tag.specs.Tags.{TagFound, TagPlaces, closed_at, valued_at, named_at, tag_at}
+use Rattle.tag.specs.Tags.{TagFound, TagPlaces, tag_of, closed_at, valued_at, named_at, tag_at}
 use Rattle.base_sequences.specs.Spans.{span}
 
 -- ==== the name
@@ -80,7 +80,7 @@ module _ (s : List ℕ) (at i e n : ℕ) (w : Reaches tag_value s at i) (q : e �
 -- ==== the end of a tag
 
 module _ (s : List ℕ) (a e v w : ℕ) where
-  pub closed-end : length s ≤ w → Read a e v w w ≡ closed_at s a e v w
+  pub closed-end : length s ≤ w → tag_of a e v w w ≡ closed_at s a e v w
   unfolding closed_at
   closed-end h = rw (closed_at, le-leb (length s) w h)
 
@@ -89,11 +89,11 @@ module _ (s : List ℕ) (a e v w : ℕ) where
     unfolding starts
     met = rw (drop-cons s w 0 h)
 
-    pub closed-mark : get_or s w 0 ≡ 59 → Read a e v w (w + 1) ≡ closed_at s a e v w
+    pub closed-mark : get_or s w 0 ≡ 59 → tag_of a e v w (w + 1) ≡ closed_at s a e v w
     unfolding closed_at
     closed-mark i = rw (closed_at, lt-leb (length s) w h, met, eq-eqb (get_or s w 0) 59 i)
 
-    pub closed-not : (get_or s w 0 ≡ 59 → ⊥) → Missing ≡ closed_at s a e v w
+    pub closed-not : (get_or s w 0 ≡ 59 → ⊥) → None ≡ closed_at s a e v w
     unfolding closed_at
     closed-not i = rw (closed_at, lt-leb (length s) w h, met, ne_eqb (get_or s w 0) 59 i)
 
@@ -113,10 +113,10 @@ abbrev valued : List ℕ → Parser tags.Tag
 valued n = ◌>>=◌ (taken tag_value) (λ v. ◌>>◌ (either end (byte 59)) (give (record { name = n; value = trimmed v })))
 
 module _ (s : List ℕ) (at a : ℕ) (q : a ≡ at + bare_space (drop at s)) (e : ℕ) (p : e ≡ a + tag_name (drop a s)) where
-  missing : nothing ≡ from tag s at → TagFound s at Missing
+  missing : nothing ≡ from tag s at → TagFound s at None
   missing h = record { reads = h; stands = tt }
 
-  pub tag-no-name : e ≡ a → TagFound s at Missing
+  pub tag-no-name : e ≡ a → TagFound s at None
   unfolding tag
   tag-no-name z = missing (goes_on skip_bare _ s at tt a nothing (skipping-at bare_space s at a q) (stops (text tag_name) _ s a (text-none tag_name s a e p z)))
 
@@ -128,7 +128,7 @@ module _ (s : List ℕ) (at a : ℕ) (q : a ≡ at + bare_space (drop at s)) (e 
         (goes_on (text tag_name) _ s a (span s a e) e x (text_at tag_name s a e p ne)
         (goes_on skip_bare _ s e tt b x (skipping-at bare_space s e b w) j))
 
-    pub tag-no-equals : r ≡ false → TagFound s at Missing
+    pub tag-no-equals : r ≡ false → TagFound s at None
     tag-no-equals t = missing (named nothing (stops (byte 61) _ s b (byte-none 61 s b r h t)))
 
     module _ (t : r ≡ true) (v : ℕ) (i : v ≡ b + 1 + tag_value (drop (b + 1) s)) where
@@ -157,17 +157,17 @@ module _ (s : List ℕ) (at a : ℕ) (q : a ≡ at + bare_space (drop at s)) (e 
             inside = m;
           }
 
-      read : (x : ℕ) → v ≤ x → x ≤ length s → got tt x ≡ from (either end (byte 59)) s v → TagFound s at (Read a e (b + 1) v x)
+      read : (x : ℕ) → v ≤ x → x ≤ length s → got tt x ≡ from (either end (byte 59)) s v → TagFound s at (tag_of a e (b + 1) v x)
       read x l m j =
           let n : tags.Tag = record { name = span s a e; value = trimmed (span s (b + 1) v) } in
           record { reads = ended (got n x) (goes_on (either end (byte 59)) _ s v tt x (got n x) j (gives n s x)); stands = places x l m }
 
-      pub tag-closed : (x : found.Tag) → x ≡ closed_at s a e (b + 1) v → TagFound s at x
+      pub tag-closed : (x : Option found.Tag) → x ≡ closed_at s a e (b + 1) v → TagFound s at x
       unfolding closed_at
       tag-closed x j = rw j (first (leb (length s) v) refl)
         where
           second : v < length s → (u : Bool) → starts (λ c. eqb c 59) (drop v s) ≡ u
-              → TagFound s at (elim u [ true ↦ Read a e (b + 1) v (v + 1) | false ↦ Missing ])
+              → TagFound s at (elim u [ true ↦ tag_of a e (b + 1) v (v + 1) | false ↦ None ])
           second l true k =
               read (v + 1) (omega arith) (omega arith)
               (either-that end (byte 59) s v _ (end-not s v l) (at-got (byte 59) s v tt 1 (v + 1) (byte-is 59 (drop v s) k) refl))
@@ -176,7 +176,7 @@ module _ (s : List ℕ) (at a : ℕ) (q : a ≡ at + bare_space (drop at s)) (e 
               (either-that end (byte 59) s v _ (end-not s v l) (at_none (byte 59) s v (byte-not 59 (drop v s) k)))))
 
           first : (u : Bool) → leb (length s) v ≡ u
-              → TagFound s at (elim u [ true ↦ Read a e (b + 1) v v | false ↦ (elim (starts (λ c. eqb c 59) (drop v s)) [ true ↦ Read a e (b + 1) v (v + 1) | false ↦ Missing ]) ])
+              → TagFound s at (elim u [ true ↦ tag_of a e (b + 1) v v | false ↦ (elim (starts (λ c. eqb c 59) (drop v s)) [ true ↦ tag_of a e (b + 1) v (v + 1) | false ↦ None ]) ])
           first true k = read v (omega arith) valued-inside (either-this end (byte 59) s v tt v (end-at s v (leb-true (length s) v k)))
           first false k = second (leb-false (length s) v k) (starts (λ c. eqb c 59) (drop v s)) refl
 
@@ -186,7 +186,7 @@ module _ (s : List ℕ) (at a : ℕ) (q : a ≡ at + bare_space (drop at s)) (e 
   at_name : tag_at s at ≡ named_at s a e
   at_name = rw (← q, ← p)
 
-  pub at-no-name : e ≡ a → Missing ≡ tag_at s at
+  pub at-no-name : e ≡ a → None ≡ tag_at s at
   unfolding named_at
   at-no-name z = sym (at_name ∙ rw (named_at, eq-eqb e a z))
 
@@ -195,11 +195,11 @@ module _ (s : List ℕ) (at a : ℕ) (q : a ≡ at + bare_space (drop at s)) (e 
     unfolding named_at
     at_value = at_name ∙ rw (named_at, ne_eqb e a ne, ← w)
 
-    pub at-no-equals : r ≡ false → Missing ≡ tag_at s at
+    pub at-no-equals : r ≡ false → None ≡ tag_at s at
     unfolding valued_at
     at-no-equals t = sym (at_value ∙ rw (valued_at, ← h, t))
 
-    pub at-closed : r ≡ true → (v : ℕ) → v ≡ b + 1 + tag_value (drop (b + 1) s) → (x : found.Tag) → x ≡ closed_at s a e (b + 1) v → x ≡ tag_at s at
+    pub at-closed : r ≡ true → (v : ℕ) → v ≡ b + 1 + tag_value (drop (b + 1) s) → (x : Option found.Tag) → x ≡ closed_at s a e (b + 1) v → x ≡ tag_at s at
     unfolding valued_at
     at-closed t v i x j = j ∙ sym (at_value ∙ rw (valued_at, ← h, t, ← i))
 

@@ -1,6 +1,6 @@
 // One tag of a DKIM tag list (RFC 6376, 3.2), read at a place.
 //
-//   tag_at(s, at)        the tag behind the space at a place, by its places, or `Missing`
+//   tag_at(s, at)        the tag behind the space at a place, by its places, if there is one
 //   name_end(s, at)      the end of the bytes of a name
 #![tactic(auto)]
 
@@ -10,36 +10,34 @@ ghost use Rattle.lexis_rules.specs.Bytes.{letter};
 ghost use Rattle.tag_rules.specs.Tags.{tag_name, tag_value, in_tag_name};
 ghost use Rattle.tag.specs.Tags.{closed_at, tag_at};
 
+use base_runs::ByteTest;
 use lexis_rules::Class;
 
 mod values;
 
-// Whether a byte may stand in a tag's name.
-fn in_tag_name(b: u8) -> bool
-    ensures { result ≡ in_tag_name b }
-{
-    if b == b'_' {
-        return true;
+// The bytes that may stand in a tag's name.
+#[derive(Drop)]
+struct NameByte;
+
+impl ByteTest for NameByte {
+    ghost passes = { λ t. in_tag_name };
+
+    fn passes(&self, b: u8) -> bool {
+        if b == b'_' {
+            return true;
+        }
+        if b == b'-' {
+            return false;
+        }
+        lexis_classes::in_class(Class::Keyword, b)
     }
-    if b == b'-' {
-        return false;
-    }
-    lexis_classes::in_class(Class::Keyword, b)
 }
 
 // The end of the bytes of a name.
 pub fn name_end(s: &[u8], at: usize) -> usize
     ensures { result ≡ at + run in_tag_name (drop at s.now) }
 {
-    let mut i = at;
-    while i < s.len() {
-        if in_tag_name(s[i]) {
-            i += 1;
-        } else {
-            return i;
-        }
-    }
-    i
+    NameByte.run_end(s, at)
 }
 
 // The end of the name of a tag.
@@ -63,7 +61,7 @@ fn is_letter(b: u8) -> bool
     lexis_classes::in_class(Class::Keyword, b)
 }
 
-// The end of the value of a tag, with the space around it: runs of plain bytes at once.
+// The end of the value of a tag, with the space around it: runs of plain bytes at once. How far a turn goes is what it reads, so there is no range to go over.
 fn value_end(s: &[u8], at: usize) -> usize
     ensures { result ≡ at + tag_value (drop at s.now) }
 {
@@ -80,55 +78,58 @@ fn value_end(s: &[u8], at: usize) -> usize
 
 // A tag: its name from `start` up to `name_end`, its value with the space around it from `value_start` up to `value_end`, and the place
 // after the ";" that ends it, if there is one.
-#[derive(Drop)]
-pub enum Tag {
-    Read {
-        start: usize,
-        name_end: usize,
-        value_start: usize,
-        value_end: usize,
-        end: usize,
-    },
-    Missing,
+#[derive(Clone, Copy)]
+pub struct Tag {
+    pub start: usize,
+    pub name_end: usize,
+    pub value_start: usize,
+    pub value_end: usize,
+    pub end: usize,
 }
 
 // A tag that ends with ";" or with the body.
-fn closed(s: &[u8], a: usize, e: usize, v: usize, w: usize) -> Tag
-    ensures { result ≡ closed_at s.now a e v w }
+fn closed(
+    s: &[u8],
+    start: usize,
+    name_end: usize,
+    value_start: usize,
+    value_end: usize,
+) -> Option<Tag>
+    ensures { result ≡ closed_at s.now start name_end value_start value_end }
 {
-    if w >= s.len() {
-        return Tag::Read {
-            start: a,
-            name_end: e,
-            value_start: v,
-            value_end: w,
-            end: w,
-        };
+    if value_end >= s.len() {
+        return Some(Tag {
+            start,
+            name_end,
+            value_start,
+            value_end,
+            end: value_end,
+        });
     }
-    if s[w] == b';' {
-        return Tag::Read {
-            start: a,
-            name_end: e,
-            value_start: v,
-            value_end: w,
-            end: w + 1,
-        };
+    if s[value_end] == b';' {
+        return Some(Tag {
+            start,
+            name_end,
+            value_start,
+            value_end,
+            end: value_end + 1,
+        });
     }
-    Tag::Missing
+    None
 }
 
 // The tag at a place.
-pub fn tag_at(s: &[u8], at: usize) -> Tag
+pub fn tag_at(s: &[u8], at: usize) -> Option<Tag>
     ensures { result ≡ tag_at s.now at }
 {
     let a = lexis_classes::bare_space_end(s, at);
     let e = tag_name_end(s, a);
     if e == a {
-        return Tag::Missing;
+        return None;
     }
     let b = lexis_classes::bare_space_end(s, e);
     if base_readers::is_at(s, b, 0, b'=') {
         return closed(s, a, e, b + 1, value_end(s, b + 1));
     }
-    Tag::Missing
+    None
 }

@@ -1,12 +1,11 @@
 -- White space around a chain value, and its words.
 use Prim.Native.Nat.{ℕ, zero, suc, ◌+◌, ◌-◌, ◌≤◌, ◌<◌, ◌^◌, zero-le, suc-le-suc}
-use native.Mathlib.Nat.{not-suc-le-zero, le_of_suc-le-suc}
 use native.Mathlib.Omega.{arith}
 use mathlib.Core.Path.{◌≡◌, refl, sym, ap, ◌∙◌}
 use mathlib.Core.Bool.{Bool, true, false, cond}
-use mathlib.Core.List.{List, [], ◌∷◌}
+use mathlib.Core.List.{List, [], ◌∷◌, ◌++◌}
 use lib.Dec.{eqb}
-use lib.ListN.{length, get_or, take, drop, length-drop}
+use lib.ListN.{length, drop, length-drop}
 use lib.Seq.{take-length}
 use mir.Syntax.{w64}
 use mir.Val as machine
@@ -14,9 +13,7 @@ use borrow.Author.Tests.{ne_eqb}
 use Rattle.base_sequences.proofs.Booleans.{or-none}
 use Rattle.base_readers.specs.Texts.{bytes, one_of}
 use Rattle.base_readers.specs.Readers.{run}
-use Rattle.base_readers.specs.Places.{Reaches}
 use Rattle.base_readers.proofs.Readers.{run_fits}
-use Rattle.base_readers.proofs.Loops.{run-off, run_out}
 use Rattle.lexis_rules.specs.Bytes.{alike}
 use Rattle.tag_rules.specs.Tags.{white, solid, trimmed}
 use Rattle.tag_rules.specs.Needed.{chain_value}
@@ -41,25 +38,16 @@ module _ (b : ℕ) where
   unfolding white one_of
   white-feed n m k = rw (ne_eqb b 32 n, ne_eqb b 9 m, ne_eqb b 13 k) (sym (or-none (eqb b 10)))
 
-module _ (v : List ℕ) (i : ℕ) (w : Reaches (run white) v 0 i) where
-  pub white-off : i < length v → (r : Bool) → r ≡ white (get_or v i 0) → r ≡ false → i ≡ run white v
-  white-off h r e q = omega (arith, run-off white v 0 i r w h e q)
-
-  pub white-out : length v ≤ i → i ≡ run white v
-  white-out h = omega (arith, run_out white v 0 i w h)
-
--- up to a byte that is space as far as up to the byte before it; up to another byte that far
-solid-white : (k : ℕ) (xs : List ℕ) → k < length xs → white (get_or xs k 0) ≡ true → solid (take (suc k) xs) ≡ solid (take k xs)
+-- a last byte that is space counts for nothing; any other is the last that counts
+solid-white : (xs : List ℕ) (x : ℕ) → white x ≡ true → solid (xs ++ (x ∷ [])) ≡ solid xs
 unfolding solid
-solid-white k [] h e = absurd (not-suc-le-zero h)
-solid-white zero (x ∷ xs) h e = rw e
-solid-white (suc k) (x ∷ xs) h e = let ih = solid-white k xs (le_of_suc-le-suc h) e in rw (solid, ih)
+solid-white [] x e = rw e
+solid-white (y ∷ ys) x e = let ih = solid-white ys x e in rw (solid, ih)
 
-solid-other : (k : ℕ) (xs : List ℕ) → k < length xs → white (get_or xs k 0) ≡ false → solid (take (suc k) xs) ≡ suc k
+solid-other : (xs : List ℕ) (x : ℕ) → white x ≡ false → solid (xs ++ (x ∷ [])) ≡ suc (length xs)
 unfolding solid
-solid-other k [] h e = absurd (not-suc-le-zero h)
-solid-other zero (x ∷ xs) h e = rw e
-solid-other (suc k) (x ∷ xs) h e = let ih = solid-other k xs (le_of_suc-le-suc h) e in rw (solid, ih)
+solid-other [] x e = rw e
+solid-other (y ∷ ys) x e = let ih = solid-other ys x e in rw (solid, ih)
 
 pub solid-fits : (xs : List ℕ) → solid xs ≤ length xs
 unfolding solid
@@ -74,33 +62,18 @@ solid-fits (x ∷ xs) = go (solid xs) refl (white x) (solid-fits xs)
     go zero e t ih = rw (solid, e) (last (white x))
     go (suc n) e t ih = rw (solid, e) (omega arith)
 
--- the space behind e has been passed
-pub record Solid (v : List ℕ) (e : ℕ) : Type 0 where
-  pub inside : e ≤ length v
-  pub same : solid (take e v) ≡ solid v
+-- the loop that passes the space at the end
+module _ (v rest front : List ℕ) (last : ℕ) (q : (rest ≡ front ++ (last ∷ [])) × (length front + 1 ≡ length rest)) (w : solid rest ≡ solid v) (r : Bool) (e : r ≡ white last) where
+  pub solid-on : r ≡ true → solid front ≡ solid v
+  solid-on t = sym (solid-white front last (sym e ∙ t)) ∙ (sym (ap solid q.0) ∙ w)
 
-module _ (v : List ℕ) where
-  pub solid-start : Solid v (length v)
-  solid-start = record { inside = omega arith; same = ap solid (take-length v) }
+  pub solid-off : r ≡ false → length rest ≡ solid v
+  solid-off t = let n : length rest ≡ suc (length front) = omega arith in n ∙ (sym (solid-other front last (sym e ∙ t)) ∙ (sym (ap solid q.0) ∙ w))
 
-  module _ (e : ℕ) (w : Solid v e) where
-    pub solid-out : e ≤ 0 → e ≡ solid v
-    unfolding solid
-    solid-out h = let z : e ≡ 0 = omega arith in z ∙ (rw z at w.same)
-
-    module _ (h : 0 < e) where
-      pub solid-last : e - 1 < length v
-      solid-last = omega (arith, w.inside)
-
-      up : suc (e - 1) ≡ e
-      up = omega arith
-
-      module _ (r : Bool) (q : r ≡ white (get_or v (e - 1) 0)) where
-        pub solid-on : r ≡ true → Solid v (e - 1)
-        solid-on t = record { inside = omega (arith, w.inside); same = sym (solid-white (e - 1) v solid-last (sym q ∙ t)) ∙ (rw up w.same) }
-
-        pub solid-off : r ≡ false → e ≡ solid v
-        solid-off t = sym up ∙ (sym (solid-other (e - 1) v solid-last (sym q ∙ t)) ∙ (rw up w.same))
+pub solid-out : (v rest : List ℕ) → length rest ≡ 0 → solid rest ≡ solid v → 0 ≡ solid v
+unfolding solid
+solid-out v [] h w = w
+solid-out v (x ∷ rest) h w = absurd (omega arith)
 
 -- ==== the chain value
 

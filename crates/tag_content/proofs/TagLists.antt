@@ -20,10 +20,10 @@ use Rattle.base_readers.specs.Locality.{Within}
 use Rattle.base_readers.proofs.Places.{goes_on, stops, gives, end-at, end-not}
 use Rattle.base_readers.proofs.Repeats.{list-is}
 use Rattle.tag_rules.proofs.Unfolding.{opened}
-use Rattle.tag_content.specs.declared.Collected.{Collected}
-use Rattle.tag_content.specs.declared.Collected.TheVariants.{Sound, Unsound, Full}
-use Rattle.tag_content.specs.declared.Attempt.{Attempt}
-use Rattle.tag_content.specs.declared.Attempt.TheVariants as attempt
+use Rattle.std.specs.Prelude.{Result, Ok, Err}
+use Rattle.tag_content.specs.declared.Sound.{Sound}
+use Rattle.tag_content.specs.declared.Unread.{Unread}
+use Rattle.tag_content.specs.declared.Unread.TheVariants.{Unreadable, Full}
 use Rattle.lexis_rules.specs.Limits.{byte_limit}
 use Rattle.tag_rules.specs.Tags.{Tag, tag, tags, named, needs, value_named, trimmed}
 use Rattle.tag_rules.specs.Needed.{chain_value, sound, signature_tags, is_signature, seal_tags, is_seal}
@@ -36,10 +36,10 @@ use Rattle.tag_content.proofs.TagsRead.{tag-within}
 -- ==== the end of a list
 
 module _ (s : List ℕ) (at n c : ℕ) where
-  pub ended-there : length s ≤ at → Sound n c ≡ ended_at s at n c
+  pub ended-there : length s ≤ at → Ok (record { count = n; cv = c }) ≡ ended_at s at n c
   ended-there h = rw (ended_at, le-leb (length s) at h)
 
-  pub ended-not : at < length s → Unsound ≡ ended_at s at n c
+  pub ended-not : at < length s → Err Unreadable ≡ ended_at s at n c
   ended-not h = rw (ended_at, lt-leb (length s) at h)
 
 -- ==== a collected list
@@ -151,25 +151,25 @@ module _ (F : Type 0) (s : List ℕ) (at : ℕ) where
 
 -- ==== by what was collected
 
-module _ (F : Type 0) (s : List ℕ) (at : ℕ) (t : List ℕ) (x : Collected) (w : CollectedIf F s at t x) where
+module _ (F : Type 0) (s : List ℕ) (at : ℕ) (t : List ℕ) (x : Result Sound Unread) (w : CollectedIf F s at t x) where
   -- what is read of a list that ends with the body
   read-there : (seal : Bool) → length s ≤ byte_limit → length s ≤ end_at tag s at → list_test seal (tags_at s at) ≡ listed_at seal s at
   read-there seal h e = said-list seal s at e ∙ sym (list-within seal s at h)
 
-  module _ (n c : ℕ) (e : x ≡ Sound n c) where
-    sound-at : SoundAt s at t n c
+  module _ (k : Sound) (e : x ≡ Ok k) where
+    sound-at : SoundAt s at t k.count k.cv
     sound-at = rw e at w
 
-    pub collected-fits : n ≤ length t
+    pub collected-fits : k.count ≤ length t
     collected-fits = sound-at.fits
 
-    pub collected-told : (seal : Bool) (r : Attempt) → length s ≤ byte_limit → r ≡ told_at seal s (take n t) c → AttemptIf F seal s at r
+    pub collected-told : (seal : Bool) (r : Result ℕ Unread) → length s ≤ byte_limit → r ≡ told_at seal s (take k.count t) k.cv → AttemptIf F seal s at r
     collected-told true r h i =
-        rw i (seal-test F s at (tags_at s at) (seal_at s (take n t) c) (seal-is s at t n c sound-at) c sound-at.cv (read-there true h sound-at.ends))
+        rw i (seal-test F s at (tags_at s at) (seal_at s (take k.count t) k.cv) (seal-is s at t k.count k.cv sound-at) k.cv sound-at.cv (read-there true h sound-at.ends))
     collected-told false r h i =
-        rw i (signature-test F s at (tags_at s at) (all_at s (take n t) signature_tags) (signature-is s at t n c sound-at) (read-there false h sound-at.ends))
+        rw i (signature-test F s at (tags_at s at) (all_at s (take k.count t) signature_tags) (signature-is s at t k.count k.cv sound-at) (read-there false h sound-at.ends))
 
-  pub collected-unsound : x ≡ Unsound → (seal : Bool) → length s ≤ byte_limit → none ≡ listed_at seal s at
+  pub collected-unsound : x ≡ Err Unreadable → (seal : Bool) → length s ≤ byte_limit → none ≡ listed_at seal s at
   collected-unsound e seal l = go (leb (length s) (end_at tag s at)) refl ∙ sym (list-within seal s at l)
     where
       no : (sound (tags_at s at) && leb (length s) (end_at tag s at)) ≡ false
@@ -183,8 +183,10 @@ module _ (F : Type 0) (s : List ℕ) (at : ℕ) (t : List ℕ) (x : Collected) (
       go true h = listed h (sound (tags_at s at)) refl
       go false h = said-none seal s at (leb-false (length s) (end_at tag s at) h)
 
-  pub collected-full : x ≡ Full → F
-  collected-full e = rw e at w
+  -- what isn't collected isn't read
+  pub collected-unread : (e : Unread) → x ≡ Err e → (seal : Bool) → length s ≤ byte_limit → AttemptIf F seal s at (Err e)
+  collected-unread Unreadable h seal l = collected-unsound h seal l
+  collected-unread Full h seal l = rw h at w
 
 -- ==== how many tags there can be
 
@@ -220,14 +222,14 @@ tags-few s at = rw (values-after at (several tag 0 (drop at s))) (omega (arith, 
 
 -- ==== what a list says
 
-pub attempt-if : (b : Bool) (c : ℕ) → b ≡ true → attempt.Read c ≡ attempt_if b c
+pub attempt-if : (b : Bool) (c : ℕ) → b ≡ true → Ok c ≡ attempt_if b c
 attempt-if b c e = rw e
 
 -- the entries in use
 pub in-use-long : (t : List ℕ) (n : ℕ) → n ≤ length t → n ≡ length (take n t)
 in-use-long t n h = sym (length-take-le n t h)
 
-module _ (seal : Bool) (s ps : List ℕ) (c : ℕ) (b : Bool) (r : Attempt) where
+module _ (seal : Bool) (s ps : List ℕ) (c : ℕ) (b : Bool) (r : Result ℕ Unread) where
   pub told-seal : seal ≡ true → b ≡ seal_at s ps c → r ≡ attempt_if b c → r ≡ told_at seal s ps c
   told-seal e q i = rw (e, ← q) i
 

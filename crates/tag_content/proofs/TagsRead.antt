@@ -25,8 +25,9 @@ use Rattle.lexis_rules.specs.Pieces.{item, bare_space}
 use Rattle.lexis_rules.specs.declared.Class.TheVariants as class
 use Rattle.lexis_laws.proofs.Pieces.{item-fits, bare-space-fits}
 use Rattle.tag.specs.declared.Tag as told
-use Rattle.tag.specs.declared.Tag.TheVariants as tagged
-use Rattle.tag_content.specs.declared.Collected.{Collected}
+use Rattle.std.specs.Prelude.{Option, Some, None, Result}
+use Rattle.tag_content.specs.declared.Sound.{Sound}
+use Rattle.tag_content.specs.declared.Unread.{Unread}
 use Rattle.tag_rules.specs.Tags.{in_tag_name, tag_name, tag_value, trimmed, Tag, tag, named, unrepeated, value_named}
 use Rattle.tag_rules.specs.Needed.{chain_value, sound}
 use Rattle.tag.specs.Tags.{TagFound, tag_at}
@@ -170,16 +171,16 @@ pub record ReadSoFar (s : List ℕ) (at : ℕ) (ks : List (List ℕ)) (i count c
   pub value : cv ≡ chain_value (value_named (bytes "cv") done)
 
 -- the tag that a call told of
-pub told-tag : (s : List ℕ) (i : ℕ) (r r' : told.Tag) → r ≡ r' → r ≡ tag_at s i → TagFound s i r'
+pub told-tag : (s : List ℕ) (i : ℕ) (r r' : Option told.Tag) → r ≡ r' → r ≡ tag_at s i → TagFound s i r'
 told-tag s i r r' e f = subst (TagFound s i) (sym f ∙ e) (tag-found s i)
 
-module _ (s : List ℕ) (i a e v w x : ℕ) (f : TagFound s i (tagged.Read a e v w x)) where
+module _ (s : List ℕ) (i : ℕ) (g : told.Tag) (f : TagFound s i (Some g)) where
   -- its name is the one at its place
-  pub found_name : span s a e ≡ name_at s a
-  found_name = let n = f.stands.named in let d : e - a ≡ run in_tag_name (drop a s) = omega (arith, n) in rw d
+  pub found_name : span s g.start g.name_end ≡ name_at s g.start
+  found_name = let n = f.stands.named in let d : g.name_end - g.start ≡ run in_tag_name (drop g.start s) = omega (arith, n) in rw d
 
-  pub found-named : Named (span s a e)
-  found-named = rw found_name (name-named s a)
+  pub found-named : Named (span s g.start g.name_end)
+  found-named = rw found_name (name-named s g.start)
 
 cv-named : Named (bytes "cv")
 unfolding opened run
@@ -190,58 +191,58 @@ unfolding opened holds
 read_none s at = record { done = []; list = refl; ends = refl; size = refl; names = λ m. refl; fine = refl; value = refl }
 
 module _ (s : List ℕ) (at : ℕ) (ks : List (List ℕ)) (i count cv : ℕ) (c : ReadSoFar s at ks i count cv) where
-  module _ (a e v w x : ℕ) (f : TagFound s i (tagged.Read a e v w x)) where
+  module _ (g : told.Tag) (f : TagFound s i (Some g)) where
     -- the tag that was found
     abbrev one : Tag
-    one = record { name = span s a e; value = trimmed (span s v w) }
+    one = record { name = span s g.start g.name_end; value = trimmed (span s g.value_start g.value_end) }
 
-    list-one : tags_at s at ≡ c.done ++ (one ∷ tags_at s x)
-    list-one = c.list ∙ ap (λ (l : List Tag). c.done ++ l) (list-more tag s i tag-some one x f.reads)
+    list-one : tags_at s at ≡ c.done ++ (one ∷ tags_at s g.end)
+    list-one = c.list ∙ ap (λ (l : List Tag). c.done ++ l) (list-more tag s i tag-some one g.end f.reads)
 
-    names-one : (m : List ℕ) → (same (span s a e) m || named c.done m) ≡ named (c.done ++ (one ∷ [])) m
+    names-one : (m : List ℕ) → (same (span s g.start g.name_end) m || named c.done m) ≡ named (c.done ++ (one ∷ [])) m
     unfolding named
-    names-one m = or-last (same (span s a e) m) (named c.done m) ∙ sym (named-append c.done (one ∷ []) m)
+    names-one m = or-last (same (span s g.start g.name_end) m) (named c.done m) ∙ sym (named-append c.done (one ∷ []) m)
 
-    value-one : named c.done (span s a e) ≡ false → cv_after cv (span s a e) (span s v w) ≡ chain_value (value_named (bytes "cv") (c.done ++ (one ∷ [])))
-    value-one h = go (same (span s a e) (bytes "cv")) refl
+    value-one : named c.done (span s g.start g.name_end) ≡ false → cv_after cv (span s g.start g.name_end) (span s g.value_start g.value_end) ≡ chain_value (value_named (bytes "cv") (c.done ++ (one ∷ [])))
+    value-one h = go (same (span s g.start g.name_end) (bytes "cv")) refl
       where
-        is-cv : same_at (span s a e) 0 (bytes "cv") ≡ same (span s a e) (bytes "cv")
-        is-cv = same_whole (span s a e) (bytes "cv") (found-named s i a e v w x f) cv-named
+        is-cv : same_at (span s g.start g.name_end) 0 (bytes "cv") ≡ same (span s g.start g.name_end) (bytes "cv")
+        is-cv = same_whole (span s g.start g.name_end) (bytes "cv") (found-named s i g f) cv-named
 
-        go : (b : Bool) → same (span s a e) (bytes "cv") ≡ b
-            → cv_after cv (span s a e) (span s v w) ≡ chain_value (value_named (bytes "cv") (c.done ++ (one ∷ [])))
+        go : (b : Bool) → same (span s g.start g.name_end) (bytes "cv") ≡ b
+            → cv_after cv (span s g.start g.name_end) (span s g.value_start g.value_end) ≡ chain_value (value_named (bytes "cv") (c.done ++ (one ∷ [])))
         go true q =
-            let n : named c.done (bytes "cv") ≡ false = rw (same-is (span s a e) (bytes "cv") q) at h in
+            let n : named c.done (bytes "cv") ≡ false = rw (same-is (span s g.start g.name_end) (bytes "cv") q) at h in
             rw (is-cv, q, value-this one (bytes "cv") c.done q n)
         go false q = rw (is-cv, q, value-other one (bytes "cv") c.done q) c.value
 
     -- its name was there or is i: the list is not sound
-    pub read_twice : is_held ks (span s a e) ≡ true → (sound (tags_at s at) && leb (length s) (end_at tag s at)) ≡ false
+    pub read_twice : is_held ks (span s g.start g.name_end) ≡ true → (sound (tags_at s at) && leb (length s) (end_at tag s at)) ≡ false
     read_twice h =
-        let b = or-either (same (span s a e) (bytes "i")) (holds ks (span s a e)) h in
-        rw (list-one, sound-not one c.done (tags_at s x) (⊎_elim (λ q. inl q) (λ q. inr (sym (c.names (span s a e)) ∙ q)) b))
+        let b = or-either (same (span s g.start g.name_end) (bytes "i")) (holds ks (span s g.start g.name_end)) h in
+        rw (list-one, sound-not one c.done (tags_at s g.end) (⊎_elim (λ q. inl q) (λ q. inr (sym (c.names (span s g.start g.name_end)) ∙ q)) b))
 
     -- the list has one tag more
     pub read-full : (m : ℕ) → m ≤ count → m < length (tags_at s at)
-    read-full m h = rw list-one (omega (arith, length-append c.done (one ∷ tags_at s x), c.size))
+    read-full m h = rw list-one (omega (arith, length-append c.done (one ∷ tags_at s g.end), c.size))
 
-    pub read-on : is_held ks (span s a e) ≡ false → (ks' : List (List ℕ)) → ((m : List ℕ) → holds ks' m ≡ (same (name_at s a) m || holds ks m)) → (cv' : ℕ)
-        → cv' ≡ cv_after cv (span s a e) (span s v w) → ReadSoFar s at ks' x (count + 1) cv'
-    read-on h ks' n cv' g =
-        let z = or-false (same (span s a e) (bytes "i")) (holds ks (span s a e)) h in
-        let new : named c.done (span s a e) ≡ false = sym (c.names (span s a e)) ∙ z.1 in
+    pub read-on : is_held ks (span s g.start g.name_end) ≡ false → (ks' : List (List ℕ)) → ((m : List ℕ) → holds ks' m ≡ (same (name_at s g.start) m || holds ks m)) → (cv' : ℕ)
+        → cv' ≡ cv_after cv (span s g.start g.name_end) (span s g.value_start g.value_end) → ReadSoFar s at ks' g.end (count + 1) cv'
+    read-on h ks' n cv' j =
+        let z = or-false (same (span s g.start g.name_end) (bytes "i")) (holds ks (span s g.start g.name_end)) h in
+        let new : named c.done (span s g.start g.name_end) ≡ false = sym (c.names (span s g.start g.name_end)) ∙ z.1 in
         record {
           done = c.done ++ (one ∷ []);
-          list = list-one ∙ sym (append_assoc c.done (one ∷ []) (tags_at s x));
-          ends = c.ends ∙ end_more tag s i tag-some one x f.reads;
+          list = list-one ∙ sym (append_assoc c.done (one ∷ []) (tags_at s g.end));
+          ends = c.ends ∙ end_more tag s i tag-some one g.end f.reads;
           size = omega (arith, length-append c.done (one ∷ []), c.size);
-          names = λ m. n m ∙ (rw (← found_name s i a e v w x f, c.names m) (names-one m));
+          names = λ m. n m ∙ (rw (← found_name s i g f, c.names m) (names-one m));
           fine = sound_more one c.done c.fine new z.0;
-          value = g ∙ value-one new;
+          value = j ∙ value-one new;
         }
 
   -- no tag is left
-  pub read-end : (F : Type 0) (t : List ℕ) → count ≤ length t → ks ≡ kept s t count → (r : Collected) → TagFound s i tagged.Missing → r ≡ ended_at s i count cv
+  pub read-end : (F : Type 0) (t : List ℕ) → count ≤ length t → ks ≡ kept s t count → (r : Result Sound Unread) → TagFound s i None → r ≡ ended_at s i count cv
       → CollectedIf F s at t r
   read-end F t u k r f q = rw q (go (leb (length s) i) refl)
     where

@@ -5,6 +5,7 @@ ghost use Rattle.tag_rules.specs.Tags.{white, solid, trimmed};
 ghost use Rattle.tag_rules.specs.Needed.{chain_value};
 
 use base_answers::ChainValue;
+use base_runs::ByteTest;
 
 // Whether a byte is space.
 fn is_white(b: u8) -> bool
@@ -22,34 +23,37 @@ fn is_white(b: u8) -> bool
     b == b'\n'
 }
 
+// The bytes of space.
+#[derive(Drop)]
+struct White;
+
+impl ByteTest for White {
+    ghost passes = { λ t. white };
+
+    fn passes(&self, b: u8) -> bool {
+        is_white(b)
+    }
+}
+
 // The end of the space at the front of a text.
 fn white_end(v: &[u8]) -> usize
     ensures { result ≡ run white v.now }
 {
-    let mut i: usize = 0;
-    while i < v.len() {
-        if is_white(v[i]) {
-            i += 1;
-        } else {
-            return i;
-        }
-    }
-    i
+    White.run_end(v, 0)
 }
 
 // Where the space at the end of a text starts.
 fn solid_end(v: &[u8]) -> usize
     ensures { result ≡ solid v.now }
 {
-    let mut e = v.len();
-    while e > 0 {
-        if is_white(v[e - 1]) {
-            e -= 1;
-        } else {
-            return e;
+    let mut rest = v;
+    while let Some((last, front)) = rest.split_last() {
+        if !is_white(*last) {
+            return rest.len();
         }
+        rest = front;
     }
-    e
+    0
 }
 
 // The chain value none, pass or fail: 1, 2 or 3; 0 for any other text.

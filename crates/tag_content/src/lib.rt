@@ -20,44 +20,41 @@ pub fn cv_after(cv: u8, name: &[u8], value: &[u8]) -> u8
     cv
 }
 
-// A tag list whose names are in a table; or one that is not well-formed, has a name twice or has a second i; or one of which the table can't
-// tell.
-#[derive(Drop)]
-pub enum Collected {
-    Sound { count: usize, cv: u8 },
-    Unsound,
-    Full,
+// A sound tag list whose names are in the first `count` entries of a table, with the chain value that it says.
+#[derive(Clone, Copy)]
+pub struct Sound {
+    pub count: usize,
+    pub cv: u8,
 }
 
-// Tags up to the end of the body.
-pub fn ended(s: &[u8], at: usize, count: usize, cv: u8) -> Collected
-    ensures { result ≡ ended_at s.now at count cv }
-{
-    if at >= s.len() {
-        return Collected::Sound { count, cv };
-    }
-    Collected::Unsound
-}
-
-// The tag list of a signature or a seal: readable, with a seal's chain value; unreadable; or one of which a table can't tell.
-#[derive(Drop)]
-pub enum Attempt {
-    Read { cv: u8 },
+// Why a tag list isn't read: it is not well-formed, has a name twice, has a second i or lacks a tag that it needs; or the table can't tell.
+#[derive(Clone, Copy)]
+pub enum Unread {
     Unreadable,
     Full,
 }
 
-fn attempt_if(readable: bool, cv: u8) -> Attempt
+// Tags up to the end of the body.
+pub fn ended(s: &[u8], at: usize, count: usize, cv: u8) -> Result<Sound, Unread>
+    ensures { result ≡ ended_at s.now at count cv }
+{
+    if at >= s.len() {
+        return Ok(Sound { count, cv });
+    }
+    Err(Unread::Unreadable)
+}
+
+fn attempt_if(readable: bool, cv: u8) -> Result<u8, Unread>
     ensures { result ≡ attempt_if readable cv }
 {
     if readable {
-        return Attempt::Read { cv };
+        return Ok(cv);
     }
-    Attempt::Unreadable
+    Err(Unread::Unreadable)
 }
 
-// What the names of a sound list say, by their places.
-pub fn told(seal: bool, s: &[u8], places: &[u16], cv: u8) -> Attempt
+// What the names of a sound list say, by their places: a seal's chain value, and 0 for a signature.
+pub fn told(seal: bool, s: &[u8], places: &[u16], cv: u8) -> Result<u8, Unread>
     ensures { result ≡ told_at seal s.now places.now cv }
 {
     if seal {

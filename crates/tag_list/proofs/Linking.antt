@@ -15,8 +15,10 @@ use lib.Seq.{take-suc, take-suc-set, get_or-set_same, get_or-set_other}
 use Rattle.base_sequences.proofs.Booleans.{both}
 use Rattle.base_readers.specs.Texts.{bytes, same}
 use Rattle.base_readers.specs.Places.{end_at}
-use Rattle.tag.specs.declared.Tag.TheVariants as tagged
-use Rattle.tag_content.specs.declared.Collected.{Collected}
+use Rattle.tag.specs.declared.Tag as tagged
+use Rattle.std.specs.Prelude.{Some, None, Result}
+use Rattle.tag_content.specs.declared.Sound.{Sound}
+use Rattle.tag_content.specs.declared.Unread.{Unread}
 use Rattle.tag_list.specs.declared.linked.Sought.{Sought}
 use Rattle.tag_list.specs.declared.linked.Sought.TheVariants as sought
 use Rattle.lexis_rules.specs.Limits.{byte_limit}
@@ -136,9 +138,6 @@ module _ (s t next : List ℕ) (last : ℕ) (n : List ℕ) where
             held = split ∙ (ap (λ (x : Bool). x || holds (kept s t k) n) z ∙ last-held s t n (bucket_at s t k) (get_or next k 0) k b (omega (arith, m)) l);
           })
 
-      pub seeking-less : r ≡ false → (d : ℕ) → d ≡ get_or next (c - 1) 0 → d < c
-      seeking-less z d v = omega (arith, (w.links.before (c - 1) (omega arith)).within)
-
 -- ==== i is taken
 
 module _ (n : List ℕ) (g : Named n) (r : Bool) (e : r ≡ same_at n 0 (bytes "i")) where
@@ -254,9 +253,9 @@ linking-start s at t next heads v =
     }
 
 module _ (s : List ℕ) (at : ℕ) (t₀ n₀ h₀ t next heads : List ℕ) (i count cv : ℕ) (c : Linking s at t₀ n₀ h₀ t next heads i count cv) where
-  module _ (a e v w x : ℕ) (f : TagFound s i (tagged.Read a e v w x)) (b : ℕ) (p : b ≡ bucket_of (span s a e)) where
+  module _ (g : tagged.Tag) (f : TagFound s i (Some g)) (b : ℕ) (p : b ≡ bucket_of (span s g.start g.name_end)) where
     below : b < 32768
-    below = rw p (bucket-small (span s a e))
+    below = rw p (bucket-small (span s g.start g.name_end))
 
     pub linking-bucket : b < length heads
     linking-bucket = rw c.linked.buckets below
@@ -266,54 +265,54 @@ module _ (s : List ℕ) (at : ℕ) (t₀ n₀ h₀ t next heads : List ℕ) (i c
       first = rw q (c.linked.last b below)
 
       -- what is asked for to look for its name
-      pub linking-seeks : Links s t next d × Ends s t (bucket_of (span s a e)) d × Named (span s a e)
+      pub linking-seeks : Links s t next d × Ends s t (bucket_of (span s g.start g.name_end)) d × Named (span s g.start g.name_end)
       linking-seeks =
           let k = c.linked.links in
           let y = first.within in (
             record { fits = omega (arith, y, k.fits); room = omega (arith, y, k.room); before = λ j h. k.before j (omega (arith, y, h)) },
             (λ j h. first.ends j h ∙ p),
-            found-named s i a e v w x f,
+            found-named s i g f,
           )
 
-      module _ (o : Sought) (u : SoughtAs (is_held (kept s t d) (span s a e)) o) where
-        told : (y : Bool) → is_held (kept s t d) (span s a e) ≡ y → is_held (kept s t count) (span s a e) ≡ y
-        told y r = ap (λ (z : Bool). same (span s a e) (bytes "i") || z) (last-held s t (span s a e) b d count p c.linked.links.fits first) ∙ r
+      module _ (o : Sought) (u : SoughtAs (is_held (kept s t d) (span s g.start g.name_end)) o) where
+        told : (y : Bool) → is_held (kept s t d) (span s g.start g.name_end) ≡ y → is_held (kept s t count) (span s g.start g.name_end) ≡ y
+        told y r = ap (λ (z : Bool). same (span s g.start g.name_end) (bytes "i") || z) (last-held s t (span s g.start g.name_end) b d count p c.linked.links.fits first) ∙ r
 
         -- its name is taken: the list is not sound
         pub linking-twice : o ≡ sought.Taken → (sound (tags_at s at) && leb (length s) (end_at tag s at)) ≡ false
-        linking-twice r = read_twice s at (kept s t count) i count cv c.read a e v w x f (told true (rw r at u))
+        linking-twice r = read_twice s at (kept s t count) i count cv c.read g f (told true (rw r at u))
 
-        pub linking-on : o ≡ sought.Free → (y : ℕ) (t' next' heads' : List ℕ) (cv' : ℕ) → length s ≤ byte_limit → count < length next → y ≡ a % 65536 → t' ≡ set t count y
-            → next' ≡ set next count (get_or heads b 0) → heads' ≡ set heads b (count + 1) → cv' ≡ cv_after cv (span s a e) (span s v w)
-            → Linking s at t₀ n₀ h₀ t' next' heads' x (count + 1) cv'
-        linking-on r y t' next' heads' cv' z h j k l m g = rw (k, l, m, j, entry) on
+        pub linking-on : o ≡ sought.Free → (y : ℕ) (t' next' heads' : List ℕ) (cv' : ℕ) → length s ≤ byte_limit → count < length next → y ≡ g.start % 65536 → t' ≡ set t count y
+            → next' ≡ set next count (get_or heads b 0) → heads' ≡ set heads b (count + 1) → cv' ≡ cv_after cv (span s g.start g.name_end) (span s g.value_start g.value_end)
+            → Linking s at t₀ n₀ h₀ t' next' heads' g.end (count + 1) cv'
+        linking-on r y t' next' heads' cv' z h j k l m q' = rw (k, l, m, j, entry) on
           where
-            entry : a % 65536 ≡ a
+            entry : g.start % 65536 ≡ g.start
             entry = omega (arith, f.stands)
 
             room : count < length t
             room = omega (arith, c.fits)
 
-            bucket-is : b ≡ bucket_of (name_at s a)
-            bucket-is = p ∙ ap bucket_of (found_name s i a e v w x f)
+            bucket-is : b ≡ bucket_of (name_at s g.start)
+            bucket-is = p ∙ ap bucket_of (found_name s i g f)
 
-            on : Linking s at t₀ n₀ h₀ (set t count a) (set next count (get_or heads b 0)) (set heads b (count + 1)) x (count + 1) cv'
+            on : Linking s at t₀ n₀ h₀ (set t count g.start) (set next count (get_or heads b 0)) (set heads b (count + 1)) g.end (count + 1) cv'
             on =
                 record {
                   read =
-                      read-on s at (kept s t count) i count cv c.read a e v w x f (told false (rw r at u))
-                      (kept s (set t count a) (count + 1))
-                      (linked-holds s t next heads count c.linked a b bucket-is room h)
+                      read-on s at (kept s t count) i count cv c.read g f (told false (rw r at u))
+                      (kept s (set t count g.start) (count + 1))
+                      (linked-holds s t next heads count c.linked g.start b bucket-is room h)
                       cv'
-                      g;
-                  linked = linked_on s t next heads count c.linked a b bucket-is room h;
-                  fits = rw (length-set t count a, length-set next count (get_or heads b 0)) c.fits;
+                      q';
+                  linked = linked_on s t next heads count c.linked g.start b bucket-is room h;
+                  fits = rw (length-set t count g.start, length-set next count (get_or heads b 0)) c.fits;
                   narrow = rw (length-set next count (get_or heads b 0)) c.narrow;
-                  long-table = length-set t count a ∙ c.long-table;
+                  long-table = length-set t count g.start ∙ c.long-table;
                   long-next = length-set next count (get_or heads b 0) ∙ c.long-next;
                   long-heads = length-set heads b (count + 1) ∙ c.long-heads;
                 }
 
   -- no tag is left
-  pub linking-end : (F : Type 0) (r : Collected) → TagFound s i tagged.Missing → r ≡ ended_at s i count cv → CollectedIf F s at t r
+  pub linking-end : (F : Type 0) (r : Result Sound Unread) → TagFound s i None → r ≡ ended_at s i count cv → CollectedIf F s at t r
   linking-end F r f q = read-end s at (kept s t count) i count cv c.read F t c.linked.links.fits refl r f q

@@ -2,10 +2,6 @@
 use Rattle.std.specs.Prelude.{ℕ, suc, ◌≤◌, ◌<◌, ◌≡◌, Bool, true, false, List, length, get_or}
 use Rattle.tag_list.specs.declared.linked.Sought.{Sought}
 use Rattle.tag_list.specs.declared.linked.Sought.TheVariants as sought
-use Rattle.tag_content.specs.declared.Attempt.{Attempt}
-use Rattle.tag_content.specs.declared.Attempt.TheVariants as attempt
-use Rattle.tag_list.specs.declared.Listed.{Listed}
-use Rattle.tag_list.specs.declared.Listed.TheVariants as listed
 use Rattle.tag_names.specs.Names.{name_at, bucket_of}
 
 -- ==== names linked by buckets
@@ -41,10 +37,3 @@ abbrev pub SoughtAs : Bool → Sought → Type 0
 SoughtAs b sought.Taken = b ≡ true
 SoughtAs b sought.Free = b ≡ false
 SoughtAs b sought.Unsure = Unit
-
--- ==== tag lists
-
-abbrev pub listed_as : Attempt → Listed
-listed_as (attempt.Read c) = listed.Read c
-listed_as attempt.Unreadable = listed.Unreadable
-listed_as attempt.Full = listed.Unreadable

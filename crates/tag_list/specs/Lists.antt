@@ -1,10 +1,9 @@
 -- What the code's answer tells of a tag list.
-use Rattle.std.specs.Prelude.{ℕ}
-use Rattle.std.proofs.Math.Option.{Option, none, some}
-use Rattle.tag_list.specs.declared.Listed.{Listed}
-use Rattle.tag_list.specs.declared.Listed.TheVariants as listed
+use Rattle.std.specs.Prelude.{ℕ, Option, Some, None}
+use Rattle.std.proofs.Math.Option as math
+use Rattle.std.proofs.Math.Option.{none, some}
 
 -- what an answer tells
-abbrev pub listed_said : Listed → Option ℕ
-listed_said (listed.Read c) = some c
-listed_said listed.Unreadable = none
+abbrev pub listed_said : Option ℕ → math.Option ℕ
+listed_said (Some c) = some c
+listed_said None = none

@@ -11,12 +11,11 @@ ghost use Rattle.lexis_rules.specs.Limits.{byte_limit};
 ghost use Rattle.tag_names.specs.Names.{Named, bucket_of};
 ghost use Rattle.tag_content.specs.Lists.{listed_at};
 ghost use Rattle.tag_content.specs.Tests.{kept, is_held, CollectedIf, AttemptIf};
-ghost use Rattle.tag_list.specs.Internal.{Links, Ends, SoughtAs, listed_as};
+ghost use Rattle.tag_list.specs.Internal.{Links, Ends, SoughtAs};
 ghost use Rattle.tag_list.specs.Lists.{listed_said};
 
 use linked::Sought;
-use tag::Tag;
-use tag_content::{Attempt, Collected};
+use tag_content::{Sound, Unread};
 
 mod linked;
 
@@ -38,56 +37,42 @@ fn collect_linked(
     table: &mut [u16],
     next: &mut [u16],
     heads: &mut [u16],
-) -> Collected
+) -> Result<Sound, Unread>
     requires { (length s.now ≤ byte_limit) × (length next.old ≤ length table.old) × (length next.old < 65536) × (heads.old ≡ replicate 32768 0) }
     ensures { CollectedIf Unit s.now at table.new result }
 {
     let mut i = at;
     let mut count: usize = 0;
     let mut cv: u8 = 0;
-    loop {
-        match tag::tag_at(s, i) {
-            Tag::Read {
-                start,
-                name_end,
-                value_start,
-                value_end,
-                end,
-            } => {
-                let bucket = tag_names::bucket(&s[start..name_end]);
-                match sought(
-                    s,
+    while let Some(tag) = tag::tag_at(s, i) {
+        let name = &s[tag.start..tag.name_end];
+        let bucket = tag_names::bucket(name);
+        match sought(s, table, next, usize::from(heads[bucket]), name) {
+            Sought::Taken => {
+                return Err(Unread::Unreadable);
+            }
+            Sought::Unsure => {
+                return Err(Unread::Full);
+            }
+            Sought::Free => {
+                if count >= next.len() {
+                    return Err(Unread::Full);
+                }
+                linked::link(
                     table,
                     next,
-                    tag_names::wide(heads[bucket]),
-                    &s[start..name_end],
-                ) {
-                    Sought::Taken => {
-                        return Collected::Unsound;
-                    }
-                    Sought::Unsure => {
-                        return Collected::Full;
-                    }
-                    Sought::Free => {
-                        if count >= next.len() {
-                            return Collected::Full;
-                        }
-                        linked::link(table, next, heads, count, bucket, tag_names::narrow(start));
-                        cv = tag_content::cv_after(
-                            cv,
-                            &s[start..name_end],
-                            &s[value_start..value_end],
-                        );
-                        count += 1;
-                        i = end;
-                    }
-                }
-            }
-            Tag::Missing => {
-                return tag_content::ended(s, i, count, cv);
+                    heads,
+                    count,
+                    bucket,
+                    tag_names::narrow(tag.start),
+                );
+                cv = tag_content::cv_after(cv, name, &s[tag.value_start..tag.value_end]);
+                count += 1;
+                i = tag.end;
             }
         }
     }
+    tag_content::ended(s, i, count, cv)
 }
 
 // The tag list of a seal, or else of a signature, from a place on, with a table for its names linked by buckets.
@@ -98,37 +83,17 @@ fn try_linked(
     table: &mut [u16],
     next: &mut [u16],
     heads: &mut [u16],
-) -> Attempt
+) -> Result<u8, Unread>
     requires { (length s.now ≤ byte_limit) × (length next.old ≤ length table.old) × (length next.old < 65536) × (heads.old ≡ replicate 32768 0) }
     ensures { AttemptIf Unit seal s.now at result }
 {
-    match collect_linked(s, at, table, next, heads) {
-        Collected::Sound { count, cv } => tag_content::told(seal, s, &table[..count], cv),
-        Collected::Unsound => Attempt::Unreadable,
-        Collected::Full => Attempt::Full,
-    }
-}
-
-// What a tag list says.
-#[derive(Drop)]
-pub enum Listed {
-    Read { cv: u8 },
-    Unreadable,
-}
-
-fn listed_as(a: Attempt) -> Listed
-    ensures { result ≡ listed_as a }
-{
-    match a {
-        Attempt::Read { cv } => Listed::Read { cv },
-        Attempt::Unreadable => Listed::Unreadable,
-        Attempt::Full => Listed::Unreadable,
-    }
+    let names = collect_linked(s, at, table, next, heads)?;
+    tag_content::told(seal, s, &table[..names.count], names.cv)
 }
 
 // The tag list of a seal, or else of a signature, with room for every name that a body can hold: a tag has two bytes at least. The names are
 // linked; where too many fall into one bucket, they are put in order.
-fn list_of_many(seal: bool, s: &[u8], at: usize) -> Listed
+fn list_of_many(seal: bool, s: &[u8], at: usize) -> Option<u8>
     requires { length s.now ≤ byte_limit }
     ensures { listed_said result ≡ listed_at seal s.now at }
 {
@@ -136,35 +101,35 @@ fn list_of_many(seal: bool, s: &[u8], at: usize) -> Listed
     let mut next = [0u16; 16384];
     let mut heads = [0u16; 32768];
     match try_linked(seal, s, at, &mut table, &mut next, &mut heads) {
-        Attempt::Read { cv } => Listed::Read { cv },
-        Attempt::Unreadable => Listed::Unreadable,
-        Attempt::Full => listed_as(tag_list_ordered::try_list(seal, s, at, &mut heads)),
+        Ok(cv) => Some(cv),
+        Err(Unread::Unreadable) => None,
+        Err(Unread::Full) => tag_list_ordered::try_list(seal, s, at, &mut heads).ok(),
     }
 }
 
 // The tag list of a seal, or else of a signature, with a table for some hundreds of tags first.
-fn list_of_some(seal: bool, s: &[u8], at: usize) -> Listed
+fn list_of_some(seal: bool, s: &[u8], at: usize) -> Option<u8>
     requires { length s.now ≤ byte_limit }
     ensures { listed_said result ≡ listed_at seal s.now at }
 {
     let mut table = [0u16; 512];
     match tag_list_ordered::try_list(seal, s, at, &mut table) {
-        Attempt::Read { cv } => Listed::Read { cv },
-        Attempt::Unreadable => Listed::Unreadable,
-        Attempt::Full => list_of_many(seal, s, at),
+        Ok(cv) => Some(cv),
+        Err(Unread::Unreadable) => None,
+        Err(Unread::Full) => list_of_many(seal, s, at),
     }
 }
 
 // The tag list of a seal, or else of a signature. Most have few tags, so a small table is tried first; a long body of more tags has many, as a rule.
-fn list_within(seal: bool, s: &[u8], at: usize) -> Listed
+fn list_within(seal: bool, s: &[u8], at: usize) -> Option<u8>
     requires { length s.now ≤ byte_limit }
     ensures { listed_said result ≡ listed_at seal s.now at }
 {
     let mut table = [0u16; 32];
     match tag_list_ordered::try_list(seal, s, at, &mut table) {
-        Attempt::Read { cv } => Listed::Read { cv },
-        Attempt::Unreadable => Listed::Unreadable,
-        Attempt::Full => {
+        Ok(cv) => Some(cv),
+        Err(Unread::Unreadable) => None,
+        Err(Unread::Full) => {
             if s.len() > 16384 {
                 return list_of_many(seal, s, at);
             }
@@ -174,11 +139,11 @@ fn list_within(seal: bool, s: &[u8], at: usize) -> Listed
 }
 
 // The tag list of a seal, or else of a signature, from a place of a body on; unreadable where the body is longer than one may be.
-pub fn list_at(seal: bool, s: &[u8], at: usize) -> Listed
+pub fn list_at(seal: bool, s: &[u8], at: usize) -> Option<u8>
     ensures { listed_said result ≡ listed_at seal s.now at }
 {
     if lexis_limits::too_long(s) {
-        return Listed::Unreadable;
+        return None;
     }
     list_within(seal, s, at)
 }

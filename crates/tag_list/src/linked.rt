@@ -8,8 +8,8 @@ ghost use Rattle.tag_names.specs.Names.{Named, holds, bucket_of};
 ghost use Rattle.tag_content.specs.Tests.{kept};
 ghost use Rattle.tag_list.specs.Internal.{Links, Ends, SoughtAs};
 
-// Whether a name is linked; unsure where too many of its bucket are.
-#[derive(Drop)]
+// Whether a name is linked; unsure where too many of its bucket are. These are three answers, which no Option has.
+#[derive(Clone, Copy)]
 pub(crate) enum Sought {
     Taken,
     Free,
@@ -23,16 +23,17 @@ pub(crate) fn seek(s: &[u8], table: &[u16], next: &[u16], last: usize, name: &[u
     ensures { SoughtAs (holds (kept s.now table.now last) name.now) result }
 {
     let mut c = last;
-    let mut left: usize = 16;
-    while c > 0 {
-        if left == 0 {
-            return Sought::Unsure;
+    for _ in 0..16 {
+        if c == 0 {
+            return Sought::Free;
         }
-        if tag_names::is_named(s, tag_names::wide(table[c - 1]), name) {
+        if tag_names::is_named(s, usize::from(table[c - 1]), name) {
             return Sought::Taken;
         }
-        c = tag_names::wide(next[c - 1]);
-        left -= 1;
+        c = usize::from(next[c - 1]);
+    }
+    if c > 0 {
+        return Sought::Unsure;
     }
     Sought::Free
 }

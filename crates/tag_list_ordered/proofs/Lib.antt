@@ -1,4 +1,3 @@
 pub mod Slots
 pub mod Halving
 pub mod Collecting
-pub mod Clearing

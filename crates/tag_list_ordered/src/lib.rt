@@ -12,92 +12,64 @@ ghost use Rattle.tag_content.specs.Lists.{tags_at};
 ghost use Rattle.tag_content.specs.Tests.{kept, CollectedIf, AttemptIf};
 ghost use Rattle.tag_list_ordered.specs.Internal.{Kept, slot_of};
 
-use seen::Slot;
-use tag::Tag;
-use tag_content::{Attempt, Collected};
+use tag_content::{Sound, Unread};
 
 mod seen;
 
-// Where a tag's name would stand among those that were read; taken where it is one of them, or i.
-fn slot_of(s: &[u8], table: &[u16], count: usize, name: &[u8]) -> Slot
+// Where a tag's name would stand among those that were read; none where it is one of them, or i.
+fn slot_of(s: &[u8], table: &[u16], count: usize, name: &[u8]) -> Option<usize>
     requires { Kept s.now table.now count × Named name.now }
     ensures { result ≡ slot_of (kept s.now table.now count) name.now }
 {
     if tag_names::is_named(name, 0, b"i") {
-        return Slot::Taken;
+        return None;
     }
     seen::find(s, table, count, name)
 }
 
 // Reads the tags from a place on, and puts their names into a table, in order.
-fn collect(s: &[u8], at: usize, table: &mut [u16]) -> Collected
+fn collect(s: &[u8], at: usize, table: &mut [u16]) -> Result<Sound, Unread>
     requires { length s.now ≤ byte_limit }
     ensures { CollectedIf (length table.old < length (tags_at s.now at)) s.now at table.new result }
 {
     let mut i = at;
     let mut count: usize = 0;
     let mut cv: u8 = 0;
-    loop {
-        match tag::tag_at(s, i) {
-            Tag::Read {
-                start,
-                name_end,
-                value_start,
-                value_end,
-                end,
-            } => match slot_of(s, table, count, &s[start..name_end]) {
-                Slot::Taken => {
-                    return Collected::Unsound;
-                }
-                Slot::Free { at: slot } => {
-                    if count >= table.len() {
-                        return Collected::Full;
-                    }
-                    seen::insert(table, count, slot, tag_names::narrow(start));
-                    cv = tag_content::cv_after(cv, &s[start..name_end], &s[value_start..value_end]);
-                    count += 1;
-                    i = end;
-                }
-            },
-            Tag::Missing => {
-                return tag_content::ended(s, i, count, cv);
-            }
+    while let Some(tag) = tag::tag_at(s, i) {
+        let name = &s[tag.start..tag.name_end];
+        let Some(slot) = slot_of(s, table, count, name) else {
+            return Err(Unread::Unreadable);
+        };
+        if count >= table.len() {
+            return Err(Unread::Full);
         }
+        seen::insert(table, count, slot, tag_names::narrow(tag.start));
+        cv = tag_content::cv_after(cv, name, &s[tag.value_start..tag.value_end]);
+        count += 1;
+        i = tag.end;
     }
+    tag_content::ended(s, i, count, cv)
 }
 
 // The tag list of a seal, or else of a signature, from a place on, with a table for its names in order; unreadable where the body is longer than
 // one may be.
-fn read_list(seal: bool, s: &[u8], at: usize, table: &mut [u16]) -> Attempt
+fn read_list(seal: bool, s: &[u8], at: usize, table: &mut [u16]) -> Result<u8, Unread>
     ensures { AttemptIf (length table.old < length (tags_at s.now at)) seal s.now at result }
 {
     if lexis_limits::too_long(s) {
-        return Attempt::Unreadable;
+        return Err(Unread::Unreadable);
     }
-    match collect(s, at, table) {
-        Collected::Sound { count, cv } => tag_content::told(seal, s, &table[..count], cv),
-        Collected::Unsound => Attempt::Unreadable,
-        Collected::Full => Attempt::Full,
-    }
-}
-
-fn clear(table: &mut [u16])
-    ensures { table.new ≡ replicate (length table.old) 0 }
-{
-    let mut k: usize = 0;
-    while k < table.len() {
-        table[k] = 0;
-        k += 1;
-    }
+    let names = collect(s, at, table)?;
+    tag_content::told(seal, s, &table[..names.count], names.cv)
 }
 
 // The tag list of a seal, or else of a signature, from a place on, with a table for its names, which is left all zeros. It is full where the list has more
 // tags than the table has entries.
-pub fn try_list(seal: bool, s: &[u8], at: usize, table: &mut [u16]) -> Attempt
+pub fn try_list(seal: bool, s: &[u8], at: usize, table: &mut [u16]) -> Result<u8, Unread>
     ensures attempt_if { AttemptIf (length table.old < length (tags_at s.now at)) seal s.now at result }
     ensures table_after { table.new ≡ replicate (length table.old) 0 }
 {
-    let a = read_list(seal, s, at, table);
-    clear(table);
-    a
+    let answer = read_list(seal, s, at, table);
+    table.fill(0);
+    answer
 }

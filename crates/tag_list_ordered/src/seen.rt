@@ -6,16 +6,10 @@ ghost use Rattle.tag_names.specs.Names.{Named};
 ghost use Rattle.tag_content.specs.Tests.{kept};
 ghost use Rattle.tag_list_ordered.specs.Internal.{Kept, slot_for, inserted_at};
 
-use tag_names::Order;
+use std::cmp::Ordering;
 
-// Where a name stands in a table, or would stand.
-#[derive(Drop)]
-pub(crate) enum Slot {
-    Taken,
-    Free { at: usize },
-}
-
-pub(crate) fn find(s: &[u8], table: &[u16], count: usize, name: &[u8]) -> Slot
+// Where a name would stand in a table; none where it stands there.
+pub(crate) fn find(s: &[u8], table: &[u16], count: usize, name: &[u8]) -> Option<usize>
     requires { Kept s.now table.now count × Named name.now }
     ensures { result ≡ slot_for 0 (kept s.now table.now count) name.now }
 {
@@ -23,19 +17,19 @@ pub(crate) fn find(s: &[u8], table: &[u16], count: usize, name: &[u8]) -> Slot
     let mut hi = count;
     while lo < hi {
         let mid = lo + (hi - lo) / 2;
-        match tag_names::compare(s, tag_names::wide(table[mid]), name) {
-            Order::Before => {
+        match tag_names::compare(s, usize::from(table[mid]), name) {
+            Ordering::Less => {
                 lo = mid + 1;
             }
-            Order::Same => {
-                return Slot::Taken;
+            Ordering::Equal => {
+                return None;
             }
-            Order::After => {
+            Ordering::Greater => {
                 hi = mid;
             }
         }
     }
-    Slot::Free { at: lo }
+    Some(lo)
 }
 
 // Puts a place into a table before the entry `at`.
@@ -43,10 +37,6 @@ pub(crate) fn insert(table: &mut [u16], count: usize, at: usize, place: u16)
     requires { (at ≤ count) × (count < length table.old) }
     ensures { table.new ≡ inserted_at at count place table.old }
 {
-    let mut j = count;
-    while j > at {
-        table[j] = table[j - 1];
-        j -= 1;
-    }
+    table.copy_within(at..count, at + 1);
     table[at] = place;
 }

@@ -17,9 +17,9 @@ pub mixing-start : (n : List ℕ) → Mixing n 0 0
 mixing-start n = record { small = omega arith; same = refl }
 
 module _ (n : List ℕ) (h j : ℕ) (w : Mixing n h j) where
-  pub mixing-on : j < length n → (x : ℕ) → (x ≡ get_or n j 0) × (x < 256) → Mixing n ((h + x) * 10368889 % 16777216) (j + 1)
+  pub mixing-on : j < length n → (x : ℕ) → x ≡ get_or n j 0 → Mixing n ((h + x) * 10368889 % 16777216) (j + 1)
   unfolding mixed_from
-  mixing-on l x e = record { small = omega arith; same = rw (add-one j, e.0) ((rw (drop-cons n j 0 l) at w.same)) }
+  mixing-on l x e = record { small = omega arith; same = rw (add-one j, e) ((rw (drop-cons n j 0 l) at w.same)) }
 
   pub mixing-end : length n ≤ j → h / 512 ≡ bucket_of n
   unfolding mixed_from bucket_of

@@ -16,7 +16,7 @@ use Rattle.base_readers.specs.Texts.{starts}
 use Rattle.base_readers.specs.Readers.{run}
 use Rattle.base_readers.proofs.Readers.{run_take, run_fits}
 use Rattle.tag_rules.specs.Tags.{in_tag_name}
-use Rattle.tag_names.specs.declared.Order.TheVariants.{Before, Same, After}
+use Rattle.std.specs.declared.cmp.Ordering.TheVariants.{Less, Equal, Greater}
 use Rattle.tag_names.specs.Names.{name_at, Named, compared, compared_at}
 
 -- ==== the byte at a place
@@ -53,16 +53,16 @@ this-byte s at e q =
 
 module _ (s : List ℕ) (at : ℕ) (name : List ℕ) (i j : ℕ) (w : compared_at (drop i s) (drop j name) ≡ compared_at (drop at s) name) where
   module _ (r : Bool) (e : r ≡ starts in_tag_name (drop i s)) where
-    pub name-longer : length name ≤ j → r ≡ true → After ≡ compared_at (drop at s) name
+    pub name-longer : length name ≤ j → r ≡ true → Greater ≡ compared_at (drop at s) name
     unfolding compared_at
     name-longer h t = (rw (drop_of_length-le name h, compared_at, ← e, t)) ∙ w
 
-    pub name-same : length name ≤ j → r ≡ false → Same ≡ compared_at (drop at s) name
+    pub name-same : length name ≤ j → r ≡ false → Equal ≡ compared_at (drop at s) name
     unfolding compared_at
     name-same h t = (rw (drop_of_length-le name h, compared_at, ← e, t)) ∙ w
 
     module _ (h : i < length s) (k : j < length name) (l : get_or name j 0 < get_or s i 0) where
-      more : (b : Bool) → starts in_tag_name (drop i s) ≡ b → elim b [ true ↦ After | false ↦ Before ] ≡ compared_at (drop at s) name
+      more : (b : Bool) → starts in_tag_name (drop i s) ≡ b → elim b [ true ↦ Greater | false ↦ Less ] ≡ compared_at (drop at s) name
       unfolding compared_at starts
       more b q =
           let x = get_or s i 0 in
@@ -71,18 +71,18 @@ module _ (s : List ℕ) (at : ℕ) (name : List ℕ) (i j : ℕ) (w : compared_a
           let m : y ≤ x = omega arith in
           (rw (drop-cons s i 0 h, drop-cons name j 0 k, compared_at, le-ltb x y m, lt-ltb y x l, a)) ∙ w
 
-      pub byte_more : r ≡ true → After ≡ compared_at (drop at s) name
+      pub byte_more : r ≡ true → Greater ≡ compared_at (drop at s) name
       byte_more t = more true (sym e ∙ t)
 
-      pub byte-behind : r ≡ false → Before ≡ compared_at (drop at s) name
+      pub byte-behind : r ≡ false → Less ≡ compared_at (drop at s) name
       byte-behind t = more false (sym e ∙ t)
 
-  pub body-ends : j < length name → length s ≤ i → Before ≡ compared_at (drop at s) name
+  pub body-ends : j < length name → length s ≤ i → Less ≡ compared_at (drop at s) name
   unfolding compared_at
   body-ends k h = (rw (drop_of_length-le s h, drop-cons name j 0 k)) ∙ w
 
   module _ (h : i < length s) (k : j < length name) where
-    pub byte-less : get_or s i 0 < get_or name j 0 → Before ≡ compared_at (drop at s) name
+    pub byte-less : get_or s i 0 < get_or name j 0 → Less ≡ compared_at (drop at s) name
     unfolding compared_at
     byte-less l = (rw (drop-cons s i 0 h, drop-cons name j 0 k, compared_at, lt-ltb (get_or s i 0) (get_or name j 0) l)) ∙ w
 

@@ -1,39 +1,17 @@
--- Names that stand at places: the loop that looks for one, the tests for those that a signature and a seal need, and that they are tests of the
+-- Names that stand at places: the tests for those that a signature and a seal need, and that they are tests of the
 -- names at the places.
-use Prim.Native.Nat.{ℕ, suc, ◌+◌, ◌≤◌, ◌<◌}
-use native.Mathlib.Numerals.{add-one}
+use Prim.Native.Nat.{ℕ}
 use mathlib.Core.Path.{◌≡◌, refl, sym, ap, ◌∙◌}
-use mathlib.Core.Bool.{Bool, true, false, not, ◌||◌}
+use mathlib.Core.Bool.{Bool, true, false, not}
 use mathlib.Core.List.{List, [], ◌∷◌, map}
 use borrow.Author.Tests.{eq-eqb, ne_eqb, not-true, not-false}
-use lib.ListN.{length, get_or, drop, drop_of_length-le}
-use lib.Seq.{drop-cons}
+use lib.ListN.{drop}
 use Rattle.base_readers.specs.Texts.{bytes, same}
 use Rattle.tag_rules.specs.Needed.{seal_tags}
-use Rattle.tag_names.specs.Names.{name_at, Named, is_same, same_at, holds, held_at, all_at, seal_at}
+use Rattle.std.specs.Ordering.{is_eq}
+use Rattle.tag_names.specs.Names.{name_at, Named, same_at, holds, held_at, all_at, seal_at}
 use Rattle.tag_names.proofs.Fronts.{compared-front, named-whole}
 use Rattle.tag_names.proofs.Ordering.{same-compared}
-
--- ==== the loop that looks for a name
-
-module _ (s ps n : List ℕ) (k : ℕ) (w : held_at s (drop k ps) n ≡ held_at s ps n) where
-  module _ (l : k < length ps) (p : ℕ) (q : p ≡ get_or ps k 0) (r : Bool) (e : r ≡ same_at s p n) where
-    here : (b : Bool) → same_at s (get_or ps k 0) n ≡ b → (b || held_at s (drop (suc k) ps) n) ≡ held_at s ps n
-    unfolding held_at
-    here b u = ap (λ (x : Bool). x || held_at s (drop (suc k) ps) n) (sym u) ∙ (rw (drop-cons ps k 0 l) at w)
-
-    said : (b : Bool) → r ≡ b → same_at s (get_or ps k 0) n ≡ b
-    said b t = ap (λ (x : ℕ). same_at s x n) (sym q) ∙ (sym e ∙ t)
-
-    pub held-here : r ≡ true → true ≡ held_at s ps n
-    held-here t = here true (said true t)
-
-    pub held-further : r ≡ false → held_at s (drop (k + 1) ps) n ≡ held_at s ps n
-    held-further t = rw (add-one k) (here false (said false t))
-
-  pub held-nowhere : length ps ≤ k → false ≡ held_at s ps n
-  unfolding held_at
-  held-nowhere l = (rw (drop_of_length-le ps l)) ∙ w
 
 -- ==== names that are needed, by the tests of the code
 
@@ -71,13 +49,13 @@ module _ (s ps : List ℕ) (c : ℕ) where
 -- ==== these are tests of the names at the places
 
 pub same-named : (s : List ℕ) (p : ℕ) (n : List ℕ) → Named n → same_at s p n ≡ same (name_at s p) n
-same-named s p n h = ap is_same (compared-front (drop p s) n h) ∙ sym (same-compared (name_at s p) n)
+same-named s p n h = ap is_eq (compared-front (drop p s) n h) ∙ sym (same-compared (name_at s p) n)
 
 -- a name is compared with another from its own front
 pub same_whole : (m n : List ℕ) → Named m → Named n → same_at m 0 n ≡ same m n
 same_whole m n g h = same-named m 0 n h ∙ ap (λ (k : List ℕ). same k n) (named-whole m g)
 
 pub held-named : (s ps n : List ℕ) → Named n → held_at s ps n ≡ holds (map (name_at s) ps) n
-unfolding held_at holds
+unfolding holds
 held-named s [] n h = refl
 held-named s (p ∷ ps) n h = rw (same-named s p n h, held-named s ps n h)

@@ -1,4 +1,4 @@
--- The order of names: `compared` says Same of equal names only and is an order. By induction on the names, case by case on the first
+-- The order of names: `compared` says `Equal` of equal names only and is an order. By induction on the names, case by case on the first
 -- bytes.
 use Prim.Native.Nat.{ℕ, ◌≤◌, ◌<◌}
 use native.Mathlib.Omega.{arith}
@@ -9,9 +9,10 @@ use borrow.Author.Tests.{ltb-true, ltb-false, lt-ltb, le-ltb, eqb-true, eq-eqb, 
 use lib.Dec.{eqb, ltb}
 use Rattle.base_sequences.proofs.Booleans.{no_true, and_left, and_right}
 use Rattle.base_readers.specs.Texts.{same}
-use Rattle.tag_names.specs.declared.Order.{Order}
-use Rattle.tag_names.specs.declared.Order.TheVariants.{Before, Same, After}
-use Rattle.tag_names.specs.Names.{compared, is_before, is_same}
+use Rattle.std.specs.declared.cmp.Ordering.{Ordering}
+use Rattle.std.specs.declared.cmp.Ordering.TheVariants.{Less, Equal, Greater}
+use Rattle.std.specs.Ordering.{is_lt, is_eq, ordering_reverse}
+use Rattle.tag_names.specs.Names.{compared}
 
 -- ==== two names
 
@@ -30,11 +31,11 @@ sides x y = go (ltb x y) refl (ltb y x) refl
     go false e false f = let l = ltb-false x y e in let m = ltb-false y x f in equal (omega (arith, l, m))
 
 module _ (x y : ℕ) (xs ys : List ℕ) where
-  first-less : x < y → compared (x ∷ xs) (y ∷ ys) ≡ Before
+  first-less : x < y → compared (x ∷ xs) (y ∷ ys) ≡ Less
   unfolding compared
   first-less h = rw (compared, lt-ltb x y h)
 
-  first_more : y < x → compared (x ∷ xs) (y ∷ ys) ≡ After
+  first_more : y < x → compared (x ∷ xs) (y ∷ ys) ≡ Greater
   unfolding compared
   first_more h = let l : y ≤ x = omega arith in rw (compared, le-ltb x y l, lt-ltb y x h)
 
@@ -42,32 +43,27 @@ module _ (x y : ℕ) (xs ys : List ℕ) where
   unfolding compared
   first-equal e = let l : y ≤ x = omega arith in let m : x ≤ y = omega arith in rw (compared, le-ltb x y l, le-ltb y x m)
 
-abbrev pub flipped : Order → Order
-flipped Before = After
-flipped Same = Same
-flipped After = Before
-
 -- two names are the same exactly where they are said to be
-pub same-compared : (a b : List ℕ) → same a b ≡ is_same (compared a b)
+pub same-compared : (a b : List ℕ) → same a b ≡ is_eq (compared a b)
 unfolding same compared
 same-compared [] [] = refl
 same-compared [] (y ∷ ys) = refl
 same-compared (x ∷ xs) [] = refl
 same-compared (x ∷ xs) (y ∷ ys) = go (sides x y) (same-compared xs ys)
   where
-    go : Sides x y → same xs ys ≡ is_same (compared xs ys) → same (x ∷ xs) (y ∷ ys) ≡ is_same (compared (x ∷ xs) (y ∷ ys))
+    go : Sides x y → same xs ys ≡ is_eq (compared xs ys) → same (x ∷ xs) (y ∷ ys) ≡ is_eq (compared (x ∷ xs) (y ∷ ys))
     go (less h) ih = let n : eqb x y ≡ false = ne_eqb x y (λ e. omega arith) in rw (first-less x y xs ys h, n)
     go (equal e) ih = rw (first-equal x y xs ys e, eq-eqb x y e) ih
     go (more h) ih = let n : eqb x y ≡ false = ne_eqb x y (λ e. omega arith) in rw (first_more x y xs ys h, n)
 
-pub compared-flip : (a b : List ℕ) → compared b a ≡ flipped (compared a b)
+pub compared-flip : (a b : List ℕ) → compared b a ≡ ordering_reverse (compared a b)
 unfolding compared
 compared-flip [] [] = refl
 compared-flip [] (y ∷ ys) = refl
 compared-flip (x ∷ xs) [] = refl
 compared-flip (x ∷ xs) (y ∷ ys) = go (sides x y) (compared-flip xs ys)
   where
-    go : Sides x y → compared ys xs ≡ flipped (compared xs ys) → compared (y ∷ ys) (x ∷ xs) ≡ flipped (compared (x ∷ xs) (y ∷ ys))
+    go : Sides x y → compared ys xs ≡ ordering_reverse (compared xs ys) → compared (y ∷ ys) (x ∷ xs) ≡ ordering_reverse (compared (x ∷ xs) (y ∷ ys))
     go (less h) ih = rw (first-less x y xs ys h, first_more y x ys xs h)
     go (equal e) ih = rw (first-equal x y xs ys e, first-equal y x ys xs (sym e)) ih
     go (more h) ih = rw (first_more x y xs ys h, first-less y x ys xs h)
@@ -83,23 +79,23 @@ same-is (x ∷ xs) (y ∷ ys) e =
     rw (h, t)
 
 pub same-flip : (a b : List ℕ) → same a b ≡ same b a
-same-flip a b = same-compared a b ∙ (go (compared a b) ∙ ap is_same (sym (compared-flip a b))) ∙ sym (same-compared b a)
+same-flip a b = same-compared a b ∙ (go (compared a b) ∙ ap is_eq (sym (compared-flip a b))) ∙ sym (same-compared b a)
   where
-    go : (o : Order) → is_same o ≡ is_same (flipped o)
-    go Before = refl
-    go Same = refl
-    go After = refl
+    go : (o : Ordering) → is_eq o ≡ is_eq (ordering_reverse o)
+    go Less = refl
+    go Equal = refl
+    go Greater = refl
 
-pub compared_same : (a b : List ℕ) → compared a b ≡ Same → a ≡ b
-compared_same a b e = same-is a b (same-compared a b ∙ ap is_same e)
+pub compared_same : (a b : List ℕ) → compared a b ≡ Equal → a ≡ b
+compared_same a b e = same-is a b (same-compared a b ∙ ap is_eq e)
 
-not-before : Same ≡ Before → ⊥
-not-before e = no_true (ap is_before e)
+not-before : Equal ≡ Less → ⊥
+not-before e = no_true (ap is_lt e)
 
-after-before : After ≡ Before → ⊥
-after-before e = no_true (ap is_before e)
+after-before : Greater ≡ Less → ⊥
+after-before e = no_true (ap is_lt e)
 
-pub compared-trans : (a b c : List ℕ) → compared a b ≡ Before → compared b c ≡ Before → compared a c ≡ Before
+pub compared-trans : (a b c : List ℕ) → compared a b ≡ Less → compared b c ≡ Less → compared a c ≡ Less
 unfolding compared
 compared-trans [] [] c e f = absurd (not-before e)
 compared-trans [] (y ∷ ys) [] e f = absurd (after-before f)
@@ -108,7 +104,7 @@ compared-trans (x ∷ xs) [] c e f = absurd (after-before e)
 compared-trans (x ∷ xs) (y ∷ ys) [] e f = absurd (after-before f)
 compared-trans (x ∷ xs) (y ∷ ys) (z ∷ zs) e f = go (sides x y) (sides y z) (compared-trans xs ys zs)
   where
-    go : Sides x y → Sides y z → (compared xs ys ≡ Before → compared ys zs ≡ Before → compared xs zs ≡ Before) → compared (x ∷ xs) (z ∷ zs) ≡ Before
+    go : Sides x y → Sides y z → (compared xs ys ≡ Less → compared ys zs ≡ Less → compared xs zs ≡ Less) → compared (x ∷ xs) (z ∷ zs) ≡ Less
     go (more h) q ih = absurd (after-before (sym (first_more x y xs ys h) ∙ e))
     go (less h) (more k) ih = absurd (after-before (sym (first_more y z ys zs k) ∙ f))
     go (less h) (less k) ih = first-less x z xs zs (omega arith)

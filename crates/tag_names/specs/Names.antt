@@ -2,8 +2,10 @@
 use Rattle.std.specs.Prelude.{ℕ, ◌+◌, ◌*◌, ◌/◌, ◌%◌, ◌≡◌, Bool, true, false, not, ◌&&◌, ◌||◌, List, [], ◌∷◌, eqb, ltb, length, take, drop}
 use Rattle.base_readers.specs.Texts.{bytes, same, starts}
 use Rattle.base_readers.specs.Readers.{run}
-use Rattle.tag_names.specs.declared.Order.{Order}
-use Rattle.tag_names.specs.declared.Order.TheVariants.{Before, Same, After}
+use Rattle.std.specs.List.{list_any}
+use Rattle.std.specs.declared.cmp.Ordering.{Ordering}
+use Rattle.std.specs.declared.cmp.Ordering.TheVariants.{Less, Equal, Greater}
+use Rattle.std.specs.Ordering.{is_eq}
 use Rattle.tag_rules.specs.Tags.{in_tag_name}
 use Rattle.tag_rules.specs.Needed.{seal_tags}
 
@@ -18,39 +20,29 @@ Named n = run in_tag_name n ≡ length n
 -- ==== the order of names
 
 -- how a name stands to another
-unfoldable pub compared : List ℕ → List ℕ → Order
-compared [] [] = Same
-compared [] (y ∷ ys) = Before
-compared (x ∷ xs) [] = After
-compared (x ∷ xs) (y ∷ ys) = elim (ltb x y) [ true ↦ Before | false ↦ (elim (ltb y x) [ true ↦ After | false ↦ compared xs ys ]) ]
+unfoldable pub compared : List ℕ → List ℕ → Ordering
+compared [] [] = Equal
+compared [] (y ∷ ys) = Less
+compared (x ∷ xs) [] = Greater
+compared (x ∷ xs) (y ∷ ys) = elim (ltb x y) [ true ↦ Less | false ↦ (elim (ltb y x) [ true ↦ Greater | false ↦ compared xs ys ]) ]
 
 -- how the name at the front of bytes stands to another. Only the byte behind the other, or the first that is more than the other's, is asked
 -- whether it is one of a name (`compared-front` in proofs/Fronts.antt: where the other is `Named` this is `compared` of the two)
-unfoldable pub compared_at : List ℕ → List ℕ → Order
-compared_at xs [] = elim (starts in_tag_name xs) [ true ↦ After | false ↦ Same ]
-compared_at [] (y ∷ ys) = Before
+unfoldable pub compared_at : List ℕ → List ℕ → Ordering
+compared_at xs [] = elim (starts in_tag_name xs) [ true ↦ Greater | false ↦ Equal ]
+compared_at [] (y ∷ ys) = Less
 compared_at (x ∷ xs) (y ∷ ys) =
     elim (ltb x y) [
-      | true ↦ Before
+      | true ↦ Less
       | false ↦ (elim (ltb y x) [
-        | true ↦ (elim (in_tag_name x) [ true ↦ After | false ↦ Before ])
+        | true ↦ (elim (in_tag_name x) [ true ↦ Greater | false ↦ Less ])
         | false ↦ compared_at xs ys
       ])
     ]
 
-abbrev pub is_before : Order → Bool
-is_before Before = true
-is_before Same = false
-is_before After = false
-
-abbrev pub is_same : Order → Bool
-is_same Before = false
-is_same Same = true
-is_same After = false
-
 -- the name at a place is this one
 abbrev pub same_at : List ℕ → ℕ → List ℕ → Bool
-same_at s p n = is_same (compared_at (drop p s) n)
+same_at s p n = is_eq (compared_at (drop p s) n)
 
 -- ==== names at places
 
@@ -60,9 +52,8 @@ holds [] n = false
 holds (k ∷ ks) n = same k n || holds ks n
 
 -- a name stands at one of these places
-unfoldable pub held_at : List ℕ → List ℕ → List ℕ → Bool
-held_at s [] n = false
-held_at s (p ∷ ps) n = same_at s p n || held_at s ps n
+abbrev pub held_at : List ℕ → List ℕ → List ℕ → Bool
+held_at s ps n = list_any (λ (p : ℕ). same_at s p n) ps
 
 -- each of these names does
 unfoldable pub all_at : List ℕ → List ℕ → List (List ℕ) → Bool

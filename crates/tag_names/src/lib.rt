@@ -2,24 +2,18 @@
 //
 //   compare(s, at, name)         how the name at a place stands to another in the order of their bytes
 //   is_named(s, at, name)        whether it is this name
-//   wide(x), narrow(x)           the place that an entry of a table of names stands for, and the entry for a place
+//   narrow(x)                    the entry of a table of names for a place
 //   bucket(name)                 a number below 32,768 that is made of the bytes of a name
 #![tactic(auto)]
 
-ghost use Rattle.std.specs.Prelude.{◌≡◌, ◌%◌, ◌<◌, drop};
+ghost use Rattle.std.specs.Prelude.{◌≡◌, ◌%◌, drop};
 ghost use Rattle.base_readers.specs.Texts.{starts};
 ghost use Rattle.tag_rules.specs.Tags.{in_tag_name};
 ghost use Rattle.tag_names.specs.Names.{compared_at, same_at, bucket_of};
 
-pub mod required;
+use std::cmp::Ordering;
 
-// How one name stands to another in the order of their bytes.
-#[derive(Drop)]
-pub enum Order {
-    Before,
-    Same,
-    After,
-}
+pub mod required;
 
 // Whether the byte at a place is one of a name.
 fn in_name(s: &[u8], at: usize) -> bool
@@ -32,53 +26,37 @@ fn in_name(s: &[u8], at: usize) -> bool
 }
 
 // How the name at a place stands to another. Where they differ, and behind the other, the byte at hand tells whether the name goes on.
-pub fn compare(s: &[u8], at: usize, name: &[u8]) -> Order
+pub fn compare(s: &[u8], at: usize, name: &[u8]) -> Ordering
     ensures { result ≡ compared_at (drop at s.now) name.now }
 {
     let mut i = at;
-    let mut j: usize = 0;
-    loop {
-        if j >= name.len() {
-            return if in_name(s, i) {
-                Order::After
-            } else {
-                Order::Same
-            };
-        }
+    for b in name {
         if i >= s.len() {
-            return Order::Before;
+            return Ordering::Less;
         }
-        if s[i] < name[j] {
-            return Order::Before;
+        if s[i] < *b {
+            return Ordering::Less;
         }
-        if s[i] > name[j] {
+        if s[i] > *b {
             return if in_name(s, i) {
-                Order::After
+                Ordering::Greater
             } else {
-                Order::Before
+                Ordering::Less
             };
         }
         i += 1;
-        j += 1;
     }
+    if in_name(s, i) {
+        return Ordering::Greater;
+    }
+    Ordering::Equal
 }
 
 // Whether the name at a place is this one.
 pub fn is_named(s: &[u8], at: usize, name: &[u8]) -> bool
     ensures { result ≡ same_at s.now at name.now }
 {
-    match compare(s, at, name) {
-        Order::Before => false,
-        Order::Same => true,
-        Order::After => false,
-    }
-}
-
-// The place that an entry of a table of names stands for.
-pub fn wide(x: u16) -> usize
-    ensures { result ≡ x }
-{
-    x as usize
+    compare(s, at, name).is_eq()
 }
 
 // The entry for a place: one below 65,536 as it is, and of any other what is left of it by 65,536.
@@ -88,21 +66,13 @@ pub fn narrow(x: usize) -> u16
     (x % 65536) as u16
 }
 
-fn number(b: u8) -> usize
-    ensures { (result ≡ b) × (result < 256) }
-{
-    b as usize
-}
-
 // A number below 32,768 that is made of the bytes of a name, so that few names of a list have the same.
 pub fn bucket(name: &[u8]) -> usize
     ensures { result ≡ bucket_of name.now }
 {
     let mut h: usize = 0;
-    let mut j: usize = 0;
-    while j < name.len() {
-        h = (h + number(name[j])) * 10368889 % 16777216;
-        j += 1;
+    for b in name {
+        h = (h + usize::from(*b)) * 10368889 % 16777216;
     }
     h / 512
 }

@@ -10,14 +10,9 @@ ghost use Rattle.tag_names.specs.Names.{held_at, all_at, seal_at};
 fn has(s: &[u8], places: &[u16], name: &[u8]) -> bool
     ensures { result ≡ held_at s.now places.now name.now }
 {
-    let mut k: usize = 0;
-    while k < places.len() {
-        if super::is_named(s, super::wide(places[k]), name) {
-            return true;
-        }
-        k += 1;
-    }
-    false
+    places
+        .iter()
+        .any(|place| super::is_named(s, usize::from(*place), name))
 }
 
 // Whether the names at these places are those that a signature needs.

@@ -1,6 +1,5 @@
 -- Two texts compared without case, byte by byte and several bytes at once, as the loops of the code walk over them. The premises are literally what a need is handed.
 use Prim.Native.Nat.{ℕ, ◌+◌, ◌-◌, ◌≤◌, ◌<◌}
-use native.Mathlib.Nat.{add-zero}
 use native.Mathlib.Numerals.{add-one}
 use native.Mathlib.Omega.{arith}
 use mathlib.Core.Path.{◌≡◌, refl, sym, ◌∙◌}
@@ -40,9 +39,6 @@ module _ (a b : List ℕ) (l : length a ≡ length b) (j : ℕ) (w : alike (drop
     word-off t = sym (rw t at here)
 
 -- n bytes at once: what is known after j of them
-pub compared-none : (a b : List ℕ) (at : ℕ) → Compared a b at 0 false
-compared-none a b at = record { on = λ t. rw add-zero; off = λ t. absurd (no_true t) }
-
 pub compared-more : (a b : List ℕ) (at j : ℕ) (hit : Bool) → Compared a b at j hit → at + j < length a → at + j < length b → (p q : ℕ)
     → p ≡ lower (get_or a (at + j) 0) → q ≡ lower (get_or b (at + j) 0) → Compared a b at (j + 1) (hit || not (eqb p q))
 compared-more a b at j hit w h k p q P Q = go hit (eqb p q) refl w

@@ -11,13 +11,7 @@ pub mod exact;
 pub fn lower(b: u8) -> u8
     ensures { result ≡ lower b }
 {
-    if b < b'A' {
-        return b;
-    }
-    if b > b'Z' {
-        return b;
-    }
-    b + 32
+    b.to_ascii_lowercase()
 }
 
 // Whether one of n bytes differs, but for ASCII case. There is no way out of the loop, so that with n a number in the call it is compiled
@@ -27,10 +21,8 @@ fn differ(a: &[u8], b: &[u8], at: usize, n: usize) -> bool
     ensures { Compared a.now b.now at n result }
 {
     let mut hit = false;
-    let mut j: usize = 0;
-    while j < n {
-        hit = hit | (lower(a[at + j]) != lower(b[at + j]));
-        j += 1;
+    for j in 0..n {
+        hit |= lower(a[at + j]) != lower(b[at + j]);
     }
     hit
 }
@@ -39,10 +31,7 @@ fn differ(a: &[u8], b: &[u8], at: usize, n: usize) -> bool
 fn same_byte(x: u8, y: u8) -> bool
     ensures { result ≡ eqb (lower x) (lower y) }
 {
-    if x == y {
-        return true;
-    }
-    lower(x) == lower(y)
+    x == y || lower(x) == lower(y)
 }
 
 // Whether two short texts, such as a word and a name of a table, are equal but for ASCII case: one byte at a time.
@@ -52,11 +41,8 @@ pub fn same_word(a: &[u8], b: &[u8]) -> bool
     if a.len() != b.len() {
         return false;
     }
-    let mut j: usize = 0;
-    while j < a.len() {
-        if same_byte(a[j], b[j]) {
-            j += 1;
-        } else {
+    for j in 0..a.len() {
+        if !same_byte(a[j], b[j]) {
             return false;
         }
     }
@@ -75,14 +61,10 @@ pub fn same_text(a: &[u8], b: &[u8]) -> bool
         return false;
     }
     let last = n - 16;
-    let mut j: usize = 0;
-    loop {
+    for j in (0..last).step_by(16) {
         if differ(a, b, j, 16) {
             return false;
         }
-        j += 16;
-        if j > last {
-            return !differ(a, b, last, 16);
-        }
     }
+    !differ(a, b, last, 16)
 }

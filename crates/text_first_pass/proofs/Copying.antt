@@ -1,6 +1,5 @@
 -- What is known by what became of the text of a first pass, and the other way round.
 use Prim.Native.Nat.{ℕ, ◌≤◌, ◌<◌}
-use native.Mathlib.Omega.{arith}
 use mathlib.Core.Path.{◌≡◌, refl, sym, ap, ◌∙◌}
 use mathlib.Core.Bool.{Bool, true, false}
 use mathlib.Core.List.{List}
@@ -65,8 +64,8 @@ module _ (first : List ℕ) (size : ℕ) (old new : List ℕ) (r : Copy) (e : r 
 
       go : (a b : Bool) → ltb (length old) size ≡ a → ltb (length first) size ≡ b → Shorter size old new
       go true b i j = record { more = ltb-true (length old) size i; same = same }
-      go false true i j = absurd (let z : Short ≡ Again = sym q ∙ (e ∙ rw (copy_of, i, j)) in let n : ◌≡◌ {A = ℕ} 0 1 = cc in omega arith)
-      go false false i j = absurd (let z : Short ≡ Done = sym q ∙ (e ∙ rw (copy_of, i, j)) in let n : ◌≡◌ {A = ℕ} 0 1 = cc in omega arith)
+      go false true i j = absurd (let z : Short ≡ Again = sym q ∙ (e ∙ rw (copy_of, i, j)) in cc)
+      go false false i j = absurd (let z : Short ≡ Done = sym q ∙ (e ∙ rw (copy_of, i, j)) in cc)
 
   pub when-again : r ≡ Again → Further size old new
   unfolding copy_of copy_leaves
@@ -76,7 +75,7 @@ module _ (first : List ℕ) (size : ℕ) (old new : List ℕ) (r : Copy) (e : r 
       same = l ∙ ap (λ (c : Copy). copy_leaves c first size old) q
 
       go : (a : Bool) → ltb (length old) size ≡ a → Further size old new
-      go true i = absurd (let z : Again ≡ Short = sym q ∙ (e ∙ rw (copy_of, i)) in let n : ◌≡◌ {A = ℕ} 0 1 = cc in omega arith)
+      go true i = absurd (let z : Again ≡ Short = sym q ∙ (e ∙ rw (copy_of, i)) in cc)
       go false i = record { fits = ltb-false (length old) size i; same = same }
 
   pub when-done : r ≡ Done → Copied first size old new
@@ -87,6 +86,6 @@ module _ (first : List ℕ) (size : ℕ) (old new : List ℕ) (r : Copy) (e : r 
       stored = l ∙ ap (λ (c : Copy). copy_leaves c first size old) q
 
       go : (a b : Bool) → ltb (length old) size ≡ a → ltb (length first) size ≡ b → Copied first size old new
-      go true b i j = absurd (let z : Done ≡ Short = sym q ∙ (e ∙ rw (copy_of, i)) in let n : ◌≡◌ {A = ℕ} 0 1 = cc in omega arith)
-      go false true i j = absurd (let z : Done ≡ Again = sym q ∙ (e ∙ rw (copy_of, i, j)) in let n : ◌≡◌ {A = ℕ} 0 1 = cc in omega arith)
+      go true b i j = absurd (let z : Done ≡ Short = sym q ∙ (e ∙ rw (copy_of, i)) in cc)
+      go false true i j = absurd (let z : Done ≡ Again = sym q ∙ (e ∙ rw (copy_of, i, j)) in cc)
       go false false i j = record { fits = ltb-false (length old) size i; whole = ltb-false (length first) size j; text = stored }

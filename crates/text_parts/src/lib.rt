@@ -12,14 +12,5 @@ pub mod places;
 pub fn part(s: &[u8], a: usize, e: usize) -> &[u8]
     ensures { result.now ≡ span s.now a e }
 {
-    if e <= a {
-        return &s[..0];
-    }
-    if e <= s.len() {
-        return &s[a..e];
-    }
-    if a < s.len() {
-        return &s[a..];
-    }
-    &s[..0]
+    s.get(a..e.min(s.len())).unwrap_or(&[])
 }

@@ -5,10 +5,7 @@ ghost use Rattle.std.specs.Prelude.{◌≡◌, get_or, set};
 pub fn place(places: &[usize], k: usize) -> usize
     ensures { result ≡ get_or places.now k 0 }
 {
-    if k < places.len() {
-        return places[k];
-    }
-    0
+    places.get(k).copied().unwrap_or(0)
 }
 
 // Keeps a place as the k-th, where there is room for it.

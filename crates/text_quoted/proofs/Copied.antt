@@ -1,16 +1,16 @@
 -- The text of a quoted string, as the loop of the code writes it: what the loop keeps, one turn, and the end. The premises are literally what a need is handed.
-use Prim.Native.Nat.{ℕ, zero, suc, ◌+◌, ◌-◌, ◌≤◌, ◌<◌, ◌^◌}
+use Prim.Native.Nat.{ℕ, zero, suc, ◌+◌, ◌-◌, ◌≤◌, ◌<◌, ◌^◌, min}
 use native.Mathlib.Omega.{arith}
 use mathlib.Core.Path.{◌≡◌, refl, sym, ◌∙◌}
 use mathlib.Core.Bool.{Bool, true, false, ◌||◌}
 use mathlib.Core.List.{List, [], ◌∷◌}
 use lib.Dec.{leb, ltb, eqb}
-use lib.ListN.{length, get_or, take, drop, set, length-take}
-use lib.Seq.{drop-drop}
-use borrow.Author.Tests.{ltb-false, leb-false, le-leb, eqb-false}
+use lib.ListN.{length, get_or, take, drop, set, length-take, drop_of_length-le}
+use lib.Seq.{sets, drop-drop}
+use borrow.Author.Tests.{ltb-false, leb-true, leb-false, le-leb, eqb-false}
 use mir.Syntax.{w64}
 use mir.Val.{Fits}
-use Rattle.base_sequences.specs.Stored.{Put}
+use Rattle.base_sequences.specs.Stored.{Put, Clipped, cap}
 use Rattle.base_sequences.proofs.Booleans.{both, and_none, or_right, neither_left, neither_right}
 use Rattle.base_sequences.proofs.Splices.{sets-out, Left, left-zero, left_step, left-done, wrote-put, put-wrote}
 use Rattle.base_readers.specs.Texts.{within, one_of}
@@ -26,9 +26,26 @@ use Rattle.lexis_laws.proofs.Pieces.{item-fits, quoted_text-run}
 
 -- ==== texts that are written as they stand, or byte by byte in lower case
 
--- nothing is stored where there is no such place
-pub put-out : (old part : List ℕ) (to : ℕ) → length old ≤ to → Put old to part old (length part)
-put-out old part to h = record { count = refl; bytes = sym (sets-out old to part h) }
+-- a place that would be past the largest number is past the end: nothing is there, as at the largest one
+module _ (old : List ℕ) (l : length old < 2 ^ 64) (at j : ℕ) (e : j ≡ min at cap) where
+  past : {A : Type 0} (f : ℕ → A) (z : A) → ((i : ℕ) → length old ≤ i → f i ≡ z) → f j ≡ f at
+  past f z out = go (leb at cap) refl
+    where
+      go : (b : Bool) → leb at cap ≡ b → f j ≡ f at
+      go true a = let q : j ≡ at = omega (arith, leb-true at cap a) in rw q
+      go false a = out j (omega (arith, leb-false at cap a)) ∙ sym (out at (omega (arith, leb-false at cap a)))
+
+  pub drop-past : drop j old ≡ drop at old
+  drop-past = past (λ i. drop i old) [] (λ i h. drop_of_length-le old h)
+
+  sets-past : (vs : List ℕ) → sets old j vs ≡ sets old at vs
+  sets-past vs = past (λ i. sets old i vs) old (λ i. sets-out old i vs)
+
+  pub stored_at : (b : ℕ) (new : List ℕ) (r : ℕ) → Clipped old j (b ∷ []) new r → new ≡ set old at b
+  stored_at b new r w = w.bytes ∙ sets-past (b ∷ [])
+
+  pub stored_run : (part new : List ℕ) (r : ℕ) → Put old j part new r → Put old at part new r
+  stored_run part new r p = record { count = p.count; bytes = p.bytes ∙ sets-past part }
 
 -- ==== the text of a quoted string
 

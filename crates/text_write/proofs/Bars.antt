@@ -1,29 +1,18 @@
 -- Phrases as the code finds them. The premises are literally what a need is handed.
 use Prim.Native.Nat.{ℕ, zero, suc, ◌+◌, ◌-◌, ◌≤◌, ◌<◌}
-use native.Mathlib.Nat.{add-zero, zero-add}
+use native.Mathlib.Nat.{add-zero}
 use native.Mathlib.Omega.{arith}
 use mathlib.Core.Path.{◌≡◌, refl, sym, ◌∙◌}
 use mathlib.Core.Bool.{Bool, true, false}
 use mathlib.Core.List.{List}
 use lib.Dec.{ltb}
-use lib.ListN.{length, get_or, take, drop, length-drop}
+use lib.ListN.{length, take, drop, length-drop}
 use lib.Seq.{drop-drop}
-use borrow.Author.Tests.{eq-eqb, ne_eqb, lt-ltb, le-ltb, ltb-true}
+use borrow.Author.Tests.{lt-ltb, le-ltb, ltb-true}
 use Rattle.base_sequences.specs.Stored.{Clipped}
 use Rattle.base_readers.specs.Readers.{run}
-use Rattle.base_readers.specs.Places.{Reaches}
-use Rattle.base_readers.proofs.Loops.{run_on, run-off}
 use Rattle.base_readers.proofs.Readers.{run_fits}
 use Rattle.text_write.specs.Phrases.{in_phrase, start, phrase}
-
--- ==== up to a bar
-
-module _ (s : List ℕ) (at i : ℕ) (w : Reaches (run in_phrase) s at i) (h : i < length s) where
-  pub bar-here : get_or s i 0 ≡ 124 → i ≡ at + run in_phrase (drop at s)
-  bar-here e = run-off in_phrase s at i false w h (let f : in_phrase (get_or s i 0) ≡ false = rw (eq-eqb (get_or s i 0) 124 e) in sym f) refl
-
-  pub bar-on : (get_or s i 0 ≡ 124 → ⊥) → Reaches (run in_phrase) s at (i + 1)
-  bar-on e = run_on in_phrase s at i true w h (let f : in_phrase (get_or s i 0) ≡ true = rw (ne_eqb (get_or s i 0) 124 e) in sym f) refl
 
 -- ==== where a phrase starts
 
@@ -39,9 +28,6 @@ start-last k l h = rw (le-ltb (run in_phrase l) (length l) h)
 pub record Passed (n : ℕ) (all : List ℕ) (at left : ℕ) : Type 0 where
   pub from : at + start left (drop at all) ≡ start n all
   pub within : at ≤ length all
-
-pub passed_none : (n : ℕ) (all : List ℕ) → Passed n all 0 n
-passed_none n all = record { from = zero-add (start n all); within = omega arith }
 
 module _ (n : ℕ) (all : List ℕ) (at left : ℕ) (p : Passed n all at left) where
   pub passed-all : left ≤ 0 → at ≡ start n all
@@ -60,8 +46,8 @@ module _ (n : ℕ) (all : List ℕ) (at left : ℕ) (p : Passed n all at left) w
         go zero h e = absurd (omega arith)
         go (suc k) h e = let z = start-last k (drop at all) (omega (arith, length-drop at all, p.within)) in omega (arith, e, z)
 
-    pub passed-more : bar < length all → Passed n all (bar + 1) (left - 1)
-    passed-more m = record { from = go left h p.from; within = omega arith }
+    pub passed-more : bar < length all → {rest : ℕ} → rest ≡ left - 1 → Passed n all (bar + 1) rest
+    passed-more m e = rw e (record { from = go left h p.from; within = omega arith })
       where
         go : (k : ℕ) → 0 < k → at + start k (drop at all) ≡ start n all → (bar + 1) + start (k - 1) (drop (bar + 1) all) ≡ start n all
         go zero h e = absurd (omega arith)

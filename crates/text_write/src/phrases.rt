@@ -8,18 +8,18 @@ ghost use Rattle.base_sequences.specs.Stored.{Clipped};
 ghost use Rattle.base_readers.specs.Readers.{run};
 ghost use Rattle.text_write.specs.Phrases.{in_phrase, start, phrase};
 
-// The next bar from this place on, or the end.
-fn bar_from(all: &[u8], at: usize) -> usize
-    ensures { result ≡ at + run in_phrase (drop at all.now) }
-{
-    let mut i = at;
-    while i < all.len() {
-        if all[i] == b'|' {
-            return i;
-        }
-        i += 1;
+use base_runs::ByteTest;
+
+// The bytes of a phrase.
+#[derive(Drop)]
+struct InPhrase;
+
+impl ByteTest for InPhrase {
+    ghost passes = { λ t. in_phrase };
+
+    fn passes(&self, b: u8) -> bool {
+        b != b'|'
     }
-    i
 }
 
 // The place where a phrase starts.
@@ -27,14 +27,12 @@ fn start(all: &[u8], n: usize) -> usize
     ensures { result ≡ start n all.now }
 {
     let mut at: usize = 0;
-    let mut left = n;
-    while left > 0 {
-        let bar = bar_from(all, at);
+    for _ in 0..n {
+        let bar = InPhrase.run_end(all, at);
         if bar >= all.len() {
             return at;
         }
         at = bar + 1;
-        left -= 1;
     }
     at
 }
@@ -44,6 +42,6 @@ pub fn put_phrase(all: &[u8], n: usize, out: &mut [u8], to: usize) -> usize
     ensures { Clipped out.old to (phrase n all.now) out.new result }
 {
     let at = start(all, n);
-    let end = bar_from(all, at);
+    let end = InPhrase.run_end(all, at);
     super::put_part(&all[at..end], out, to)
 }

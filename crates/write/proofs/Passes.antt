@@ -25,10 +25,13 @@ use Rattle.write_rules.specs.Compose.{State, front, goes, final, Step, steps, st
 use Rattle.write_laws.proofs.Lines.{entry-finds}
 use Rattle.write_laws.proofs.Runs.{walked-stops, walked-goes, walked-last, walked-early}
 use Rattle.write_lines.specs.declared.Piece.{Piece}
-use Rattle.write.specs.declared.Lines.{Lines}
+use Rattle.std.specs.Prelude as std
+use Rattle.std.specs.Prelude.{Some, None, Ok, Err}
+use Rattle.std.proofs.lemmas.Option.{none-some, same_Some}
+use Rattle.write.specs.declared.State as code
 use Rattle.write_lines.specs.Internal.{piece_at, bytes_at}
-use Rattle.write.specs.Internal.{code_of, next_code, final_code, LinesPut}
-use Rattle.write.proofs.States.{letter, code_in, next-is, final-is, code-low}
+use Rattle.write.specs.Internal.{next_of, is_final, LinesWritten, LinesRefused}
+use Rattle.write.proofs.States.{state_of, state_in, letter, next-is, final-is}
 
 -- ==== a line that was read
 
@@ -86,20 +89,16 @@ step-none s xs h = bind-none entry _ xs h
 
 -- ==== the loop
 
-abbrev lines_is : ℕ → ℕ → ℕ → Lines
-lines_is a p n = record { number = a; place = p; next = n }
-
 -- the lines from a place on end as all of them do
-pub record Lining (s old out : List ℕ) (at n k to : ℕ) : Type 0 where
+pub record Lining (s old out : List ℕ) (at n : ℕ) (k : code.State) (to : ℕ) : Type 0 where
   pub state : State
-  pub code : k ≡ code_of state
+  pub code : k ≡ state_of state
   pub number : (walked state n 0 (drop at s)).number ≡ (entries s).number
   pub place : (walked state n 0 (drop at s)).place ≡ (entries s).place
   pub going : Going old 0 (body_of (entries s).items) out to (body_of (walked state n 0 (drop at s)).items)
   pub count : n + n ≤ at + 2
 
-pub lining-start : (s old : List ℕ) → Lining s old old 0 1 0 0
-unfolding code_of
+pub lining-start : (s old : List ℕ) → Lining s old old 0 1 (state_of front) 0
 lining-start s old =
     record {
       state = front;
@@ -110,95 +109,90 @@ lining-start s old =
       count = omega arith;
     }
 
-module _ (s old out : List ℕ) (at n k to : ℕ) (w : Lining s old out at n k to) where
+module _ (s old out : List ℕ) (at n : ℕ) (k : code.State) (to : ℕ) (w : Lining s old out at n k to) where
   abbrev left : Walked Entry
   left = walked w.state n 0 (drop at s)
 
   pub lining-long : length out ≡ length old
   lining-long = w.going.long
 
-  refuses : (new : List ℕ) → length new ≡ length old → left ≡ ended 11 n → LinesPut (entries s) old new (lines_is 11 n 0)
+  refuses : (new : List ℕ) → length new ≡ length old → left ≡ ended 11 n → LinesRefused (entries s) old new n
   refuses new l q =
       record {
-        number = sym (ap (λ (x : Walked Entry). x.number) q) ∙ w.number;
-        place = sym (ap (λ (x : Walked Entry). x.place) q) ∙ w.place;
+        number = sym w.number ∙ ap (λ (x : Walked Entry). x.number) q;
+        place = sym w.place ∙ ap (λ (x : Walked Entry). x.place) q;
         long = l;
-        put = λ z. absurd (omega arith);
       }
 
   -- no line is left
-  module _ (h : length s ≤ at) (f : Bool) (F : f ≡ final_code k) where
+  module _ (h : length s ≤ at) (f : Bool) (F : f ≡ is_final k) where
     over : drop at s ≡ []
     over = drop_of_length-le s h
 
     finals : f ≡ final w.state
-    finals = F ∙ (ap final_code w.code ∙ final-is w.state)
+    finals = F ∙ (ap is_final w.code ∙ final-is w.state)
 
-    pub lining-early : f ≡ false → LinesPut (entries s) old out (record { number = 11; place = n; next = 0 })
+    pub lining-early : f ≡ false → LinesRefused (entries s) old out n
     lining-early e = refuses out lining-long (ap (walked w.state n 0) over ∙ walked-early w.state n (sym finals ∙ e))
 
-    pub lining-done : f ≡ true → LinesPut (entries s) old out (record { number = 0; place = 0; next = to })
+    pub lining-done : f ≡ true → LinesWritten (entries s) old out to
     unfolding body_of
     lining-done e =
         let q : left ≡ ended 0 0 = ap (walked w.state n 0) over ∙ walked-last w.state n (sym finals ∙ e) in
         record {
-          number = sym (ap (λ (x : Walked Entry). x.number) q) ∙ w.number;
-          place = sym (ap (λ (x : Walked Entry). x.place) q) ∙ w.place;
+          number = sym w.number ∙ ap (λ (x : Walked Entry). x.number) q;
+          place = sym w.place ∙ ap (λ (x : Walked Entry). x.place) q;
           long = lining-long;
-          put = λ z. going_done w.going (ap (λ (x : Walked Entry). body_of x.items) q);
+          put = going_done w.going (ap (λ (x : Walked Entry). body_of x.items) q);
         }
 
   -- a line
-  module _ (l : at < length s) (new : List ℕ) (r : Piece) (R : (r ≡ piece_at at to (from entry s at)) × (new ≡ bytes_at out to (from entry s at))) where
+  module _ (l : at < length s) where
     there : 0 < length (drop at s)
     there = omega (arith, length-drop at s)
 
-    record Read : Type 0 where
-      what : Entry
-      found : Found s at what r.end
-      clip : Clipped out to (piece what) new r.next
-
-    data Taken : Type 0 where
-      taken : Read → Taken
-      untaken : entry (drop at s) ≡ nothing → r.end ≡ at → new ≡ out → Taken
-
-    take_in : Taken
-    take_in = go (from entry s at) refl
-      where
-        go : (g : Got Entry) → from entry s at ≡ g → Taken
-        go nothing q =
-            untaken (none-at entry s at (sym q)) (ap (λ (x : Piece). x.end) (R.0 ∙ ap (piece_at at to) q)) (R.1 ∙ ap (bytes_at out to) q)
-        go (got e n) q =
-            let p : r ≡ piece_at at to (got e n) = R.0 ∙ ap (piece_at at to) q in
-            let z : r.end ≡ n = ap (λ (x : Piece). x.end) p in
-            taken
-            (record {
-              what = e;
-              found = found s at e r.end (ap (λ (m : ℕ). got e m) z ∙ sym q);
-              clip = record { place = ap (λ (x : Piece). x.next) p; bytes = R.1 ∙ ap (bytes_at out to) q };
-            })
-
-    pub lining-grown : length new ≡ length old
-    lining-grown = go take_in
-      where
-        go : Taken → length new ≡ length old
-        go (taken x) = clipped-long x.clip ∙ w.going.long
-        go (untaken a b c) = ap length c ∙ w.going.long
-
-    pub lining-missing : r.end ≡ at → LinesPut (entries s) old new (record { number = 11; place = n; next = 0 })
-    lining-missing z = go take_in
-      where
-        go : Taken → LinesPut (entries s) old new (lines_is 11 n 0)
-        go (taken x) = absurd (omega (arith, x.found.sum, x.found.two, z))
-        go (untaken a b c) = refuses new lining-grown (walked-stops w.state n (drop at s) there (step-none w.state (drop at s) a))
-
-    module _ (ne : r.end ≡ at → ⊥) where
-      read : Read
-      read = go take_in
+    -- none stands there
+    module _ (new : List ℕ) (r : std.Option Piece) (R : r ≡ piece_at to (from entry s at)) (N : new ≡ bytes_at out to (from entry s at)) (z : r ≡ None) where
+      unread : from entry s at ≡ nothing
+      unread = go (from entry s at) refl
         where
-          go : Taken → Read
-          go (taken x) = x
-          go (untaken a b c) = absurd (ne b)
+          go : (g : Got Entry) → from entry s at ≡ g → from entry s at ≡ nothing
+          go nothing q = q
+          go (got e m) q = absurd (none-some _ (sym z ∙ (R ∙ ap (piece_at to) q)))
+
+      untouched : new ≡ out
+      untouched = N ∙ ap (bytes_at out to) unread
+
+      pub lining-untouched : length new ≡ length old
+      lining-untouched = ap length untouched ∙ w.going.long
+
+      pub lining-missing : LinesRefused (entries s) old new n
+      lining-missing = refuses new lining-untouched (walked-stops w.state n (drop at s) there (step-none w.state (drop at s) (none-at entry s at (sym unread))))
+
+    -- one does
+    module _ (new : List ℕ) (r : Piece) (R : Some r ≡ piece_at to (from entry s at)) (N : new ≡ bytes_at out to (from entry s at)) where
+      record Read : Type 0 where
+        what : Entry
+        found : Found s at what r.end
+        clip : Clipped out to (piece what) new r.next
+
+      read : Read
+      read = go (from entry s at) refl
+        where
+          go : (g : Got Entry) → from entry s at ≡ g → Read
+          go nothing q = absurd (none-some r (sym (R ∙ ap (piece_at to) q)))
+          go (got e m) q =
+              let p : Some r ≡ piece_at to (got e m) = R ∙ ap (piece_at to) q in
+              let y = same_Some _ _ p in
+              let z : r.end ≡ m = ap (λ (x : Piece). x.end) y in
+              record {
+                what = e;
+                found = found s at e r.end (ap (λ (i : ℕ). got e i) z ∙ sym q);
+                clip = record { place = ap (λ (x : Piece). x.next) y; bytes = N ∙ ap (bytes_at out to) q };
+              }
+
+      pub lining-grown : length new ≡ length old
+      lining-grown = clipped-long read.clip ∙ w.going.long
 
       pub lining-less : length s - r.end < length s - at
       lining-less = omega (arith, l, read.found.sum, read.found.two)
@@ -206,25 +200,24 @@ module _ (s old out : List ℕ) (at n k to : ℕ) (w : Lining s old out at n k t
       pub lining-fits : length s < 2 ^ 64 → machine.Fits w64 (n + 1)
       lining-fits f = omega (arith, w.count, l)
 
-      module _ (b : ℕ) (B : b ≡ get_or (drop at s) 0 0) (t : ℕ) (T : t ≡ next_code k b) where
-        codes : t ≡ code_in (goes w.state read.what)
-        codes =
-            T ∙ (ap (λ (x : ℕ). next_code x b) w.code ∙ (ap (next_code (code_of w.state)) (B ∙ read.found.first) ∙ next-is w.state read.what))
+      module _ (b : ℕ) (B : b ≡ get_or (drop at s) 0 0) where
+        states : next_of k b ≡ state_in (goes w.state read.what)
+        states =
+            ap (λ (x : code.State). next_of x b) w.code ∙ (ap (next_of (state_of w.state)) (B ∙ read.found.first) ∙ next-is w.state read.what)
 
-        pub lining-stuck : t ≡ 5 → LinesPut (entries s) old new (record { number = 11; place = n; next = 0 })
-        unfolding code_in
+        pub lining-stuck : None ≡ next_of k b → LinesRefused (entries s) old new n
         lining-stuck z = go (goes w.state read.what) refl
           where
-            go : (o : Option State) → goes w.state read.what ≡ o → LinesPut (entries s) old new (lines_is 11 n 0)
+            go : (o : Option State) → goes w.state read.what ≡ o → LinesRefused (entries s) old new n
             go none q = refuses new lining-grown (walked-stops w.state n (drop at s) there (step-not w.state read.what (drop at s) read.found.size read.found.is q))
-            go (some u) q = absurd (let y : t ≡ code_of u = codes ∙ ap code_in q in omega (arith, y, z, code-low u))
+            go (some u) q = absurd (none-some _ (z ∙ (states ∙ ap state_in q)))
 
-        pub lining-more : (t ≡ 5 → ⊥) → length old < 2 ^ 64 → Lining s old new r.end (n + 1) t r.next
-        unfolding code_in body_of
-        lining-more f h = go (goes w.state read.what) refl
+        pub lining-more : (t : code.State) → Some t ≡ next_of k b → length old < 2 ^ 64 → Lining s old new r.end (n + 1) t r.next
+        unfolding body_of
+        lining-more t T h = go (goes w.state read.what) refl
           where
             go : (o : Option State) → goes w.state read.what ≡ o → Lining s old new r.end (n + 1) t r.next
-            go none q = absurd (f (codes ∙ ap code_in q))
+            go none q = absurd (none-some t (sym (T ∙ (states ∙ ap state_in q))))
             go (some u) q =
                 let m = read.found.size in
                 let d : drop m (drop at s) ≡ drop r.end s = drop-drop m at s ∙ ap (λ (x : ℕ). drop x s) (sym read.found.sum) in
@@ -232,7 +225,7 @@ module _ (s old out : List ℕ) (at n k to : ℕ) (w : Lining s old out at n k t
                 rw (← d, add-one) (walked-goes w.state n (drop at s) (step_is read.what u) m there (omega (arith, read.found.two)) (step-is w.state u read.what (drop at s) m read.found.is q)) in
                 record {
                   state = u;
-                  code = codes ∙ ap code_in q;
+                  code = same_Some _ _ (T ∙ (states ∙ ap state_in q));
                   number = sym (ap (λ (x : Walked Entry). x.number) e) ∙ w.number;
                   place = sym (ap (λ (x : Walked Entry). x.place) e) ∙ w.place;
                   going = going_step (omega (arith, h)) w.going (ap (λ (x : Walked Entry). body_of x.items) e) read.clip;

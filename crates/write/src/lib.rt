@@ -12,7 +12,7 @@
 
 ghost use Rattle.std.specs.Prelude.{◌≡◌, length};
 ghost use Rattle.write_rules.specs.Compose.{entries, compose};
-ghost use Rattle.write.specs.Internal.{only_code, next_code, final_code, LinesPut};
+ghost use Rattle.write.specs.Internal.{next_of, is_final, LinesPut};
 ghost use Rattle.write_rules.specs.Answers.{answer_of, leaves};
 
 use base_answers::Number;
@@ -20,121 +20,79 @@ use lexis_limits::Size;
 use text_first_pass::Copy;
 use write_rules::Written;
 
-// What stands before a line: nothing; the `id` line; the line `none`; an `m` line; an `r` or `p` line. The last is said of a line that can't
-// stand there.
-const FRONT: u8 = 0;
-
-const NAMED: u8 = 1;
-
-const CLOSED: u8 = 2;
-
-const STATED: u8 = 3;
-
-const DETAILED: u8 = 4;
-
-const STUCK: u8 = 5;
-
-// The second state where a line stands behind the first.
-fn only(state: u8, behind: u8, then: u8) -> u8
-    ensures { result ≡ only_code state behind then }
-{
-    if state == behind {
-        return then;
-    }
-    STUCK
+// What stands before a line: nothing; the `id` line; the line `none`; an `m` line; an `r` or `p` line.
+#[derive(Clone, Copy)]
+enum State {
+    Front,
+    Named,
+    Closed,
+    Stated,
+    Detailed,
 }
 
-// What stands before the next line, by the first byte of this one.
-fn next_state(state: u8, b: u8) -> u8
-    ensures { result ≡ next_code state b }
+// What stands before the next line, by the first byte of this one, where this one can stand there.
+fn next_state(state: State, b: u8) -> Option<State>
+    ensures { result ≡ next_of state b }
 {
-    if b == b'i' {
-        return only(state, FRONT, NAMED);
+    match state {
+        State::Front => match b {
+            b'i' => Some(State::Named),
+            _ => None,
+        },
+        State::Named => match b {
+            b'n' => Some(State::Closed),
+            b'm' => Some(State::Stated),
+            _ => None,
+        },
+        State::Closed => None,
+        State::Stated => match b {
+            b'm' => Some(State::Stated),
+            b'i' | b'n' => None,
+            _ => Some(State::Detailed),
+        },
+        State::Detailed => match b {
+            b'm' => Some(State::Stated),
+            b'i' | b'n' | b'r' => None,
+            _ => Some(State::Detailed),
+        },
     }
-    if b == b'n' {
-        return only(state, NAMED, CLOSED);
-    }
-    if b == b'm' {
-        if state == NAMED {
-            return STATED;
-        }
-        if state == DETAILED {
-            return STATED;
-        }
-        return only(state, STATED, STATED);
-    }
-    if b == b'r' {
-        return only(state, STATED, DETAILED);
-    }
-    if state == DETAILED {
-        return DETAILED;
-    }
-    only(state, STATED, DETAILED)
 }
 
 // Whether the lines may end here.
-fn is_final(state: u8) -> bool
-    ensures { result ≡ final_code state }
+fn is_final(state: State) -> bool
+    ensures { result ≡ is_final state }
 {
-    if state == FRONT {
-        return false;
+    match state {
+        State::Front | State::Named => false,
+        State::Closed | State::Stated | State::Detailed => true,
     }
-    if state == NAMED {
-        return false;
-    }
-    true
 }
 
-// All lines: 0 and the place after what was written, or 11 and the number of the line that can't go on.
-#[derive(Drop)]
-struct Lines {
-    number: u8,
-    place: usize,
-    next: usize,
-}
-
-// Every line, and what it adds to the body, as far as there is room. Where a line can't go on, those before it are written.
-fn put_lines(s: &[u8], out: &mut [u8]) -> Lines
+// Every line, and what it adds to the body, as far as there is room: the place after what was written, or the number of the line that can't go
+// on. Where a line can't go on, those before it are written. A line is as long as it is read to be, so there is no range to go over.
+fn put_lines(s: &[u8], out: &mut [u8]) -> Result<usize, usize>
     ensures { LinesPut (entries s.now) out.old out.new result }
 {
     let mut at: usize = 0;
     let mut n: usize = 1;
-    let mut state = FRONT;
+    let mut state = State::Front;
     let mut to: usize = 0;
     while at < s.len() {
-        let r = write_lines::put_line(s, at, out, to);
-        if r.end == at {
-            return Lines {
-                number: Number::NO_SUCH_REPORT,
-                place: n,
-                next: 0,
-            };
-        }
-        let t = next_state(state, base_readers::byte(s, at, 0));
-        if t == STUCK {
-            return Lines {
-                number: Number::NO_SUCH_REPORT,
-                place: n,
-                next: 0,
-            };
-        }
-        state = t;
-        at = r.end;
-        to = r.next;
+        let Some(line) = write_lines::put_line(s, at, out, to) else {
+            return Err(n);
+        };
+        let Some(next) = next_state(state, base_readers::byte(s, at, 0)) else {
+            return Err(n);
+        };
+        state = next;
+        at = line.end;
+        to = line.next;
         n += 1;
     }
     if is_final(state) {
-        return Lines {
-            number: Number::DONE,
-            place: 0,
-            next: to,
-        };
+        return Ok(to);
     }
-    Lines {
-        number: Number::NO_SUCH_REPORT,
-        place: n,
-        next: 0,
-    }
+    Err(n)
 }
 
 // Writes the body that report lines say. The first pass runs on a buffer of its own, and so measures. What fits that too is copied from
@@ -144,39 +102,41 @@ pub fn write(lines: &[u8], out: &mut [u8]) -> Written
     ensures out_after { out.new ≡ leaves (compose lines.now (length out.old)) out.old }
 {
     let mut scratch = [0u8; 1024];
-    let first = put_lines(lines, &mut scratch);
-    if first.number == Number::NO_SUCH_REPORT {
-        return Written {
-            number: Number::NO_SUCH_REPORT,
-            place: first.place,
-            written: 0,
-        };
-    }
-    if first.next > Size::MOST {
+    let length = match put_lines(lines, &mut scratch) {
+        Ok(length) => length,
+        Err(line) => {
+            return Written {
+                number: Number::NO_SUCH_REPORT,
+                place: line,
+                written: 0,
+            };
+        }
+    };
+    if length > Size::MOST {
         return Written {
             number: Number::TOO_LONG,
             place: 0,
             written: 0,
         };
     }
-    match text_first_pass::copy_first(&scratch, first.next, out) {
+    match text_first_pass::copy_first(&scratch, length, out) {
         Copy::Short => Written {
             number: Number::TOO_SHORT,
-            place: first.next,
+            place: length,
             written: 0,
         },
         Copy::Again => {
-            put_lines(lines, &mut out[..first.next]);
+            let _ = put_lines(lines, &mut out[..length]);
             Written {
                 number: Number::DONE,
                 place: 0,
-                written: first.next,
+                written: length,
             }
         }
         Copy::Done => Written {
             number: Number::DONE,
             place: 0,
-            written: first.next,
+            written: length,
         },
     }
 }

@@ -26,7 +26,9 @@ use Rattle.lexis_rules.specs.Bytes.{in_class}
 use Rattle.report_rules.specs.Report.{plain}
 use Rattle.write_rules.specs.Entries.{single, is_hex, hex_value, hex_or, escaped}
 use Rattle.write_columns.specs.declared.coded.Code.{Code}
-use Rattle.write_columns.specs.Internal.{coded_byte, code_size, code_value, code_at, text_of}
+use Rattle.write_columns.specs.Internal.{coded_byte, code_size, code_at, text_of}
+use Rattle.std.specs.Prelude.{Some, None}
+use Rattle.std.proofs.lemmas.Option.{none-some, same_Some}
 
 -- ==== bytes that stand for themselves
 
@@ -160,7 +162,7 @@ module _ (xs : List ℕ) (r : Bool) (p : r ≡ plain (get_or xs 0 0)) (f : r ≡
           go (x ∷ y ∷ []) b d e t = absurd (both (is_hex 0) zero-hex e)
           go (x ∷ y ∷ z ∷ ys) b d e t = rw b (escaped-other y z ys d e t)
 
--- its size and its value
+-- its size
 pub size_none : (xs : List ℕ) → coded_byte xs ≡ nothing → 0 ≡ code_size xs
 unfolding code_size
 size_none xs e = rw (code_size, e)
@@ -169,43 +171,53 @@ pub size-some : (xs : List ℕ) (a n : ℕ) → coded_byte xs ≡ got a n → n 
 unfolding code_size
 size-some xs a n e = rw (code_size, e)
 
-value-some : (xs : List ℕ) (a n : ℕ) → coded_byte xs ≡ got a n → a ≡ code_value xs
-unfolding code_value
-value-some xs a n e = rw (code_value, e)
+no_code : (xs : List ℕ) → coded_byte xs ≡ nothing → None ≡ code_at xs
+unfolding code_at
+no_code xs e = rw (code_at, e)
 
-abbrev code_is : ℕ → ℕ → Code
-code_is n a = record { size = n; value = a }
+a-code : (xs : List ℕ) (a n : ℕ) → coded_byte xs ≡ got a n → Some (record { size = n; value = a }) ≡ code_at xs
+unfolding code_at
+a-code xs a n e = rw (code_at, e)
 
-no_code : (xs : List ℕ) → coded_byte xs ≡ nothing → code_is 0 0 ≡ code_at xs
-unfolding code_size code_value
-no_code xs e = rw (code_size, code_value, e)
+-- the byte that a code tells of, or that there is none
+code-nothing : (xs : List ℕ) → None ≡ code_at xs → coded_byte xs ≡ nothing
+unfolding code_at
+code-nothing xs e = go (coded_byte xs) refl
+  where
+    go : (g : Got ℕ) → coded_byte xs ≡ g → coded_byte xs ≡ nothing
+    go nothing q = q
+    go (got a n) q = absurd (none-some _ (rw (code_at, q) at e))
 
-a-code : (xs : List ℕ) (a n : ℕ) → coded_byte xs ≡ got a n → code_is n a ≡ code_at xs
-unfolding code_size code_value
-a-code xs a n e = rw (code_size, code_value, e)
+code-got : (xs : List ℕ) (c : Code) → Some c ≡ code_at xs → coded_byte xs ≡ got c.value c.size
+unfolding code_at
+code-got xs c e = go (coded_byte xs) refl
+  where
+    go : (g : Got ℕ) → coded_byte xs ≡ g → coded_byte xs ≡ got c.value c.size
+    go nothing q = absurd (none-some _ (sym (rw (code_at, q) at e)))
+    go (got a n) q = let w : c ≡ record { size = n; value = a } = same_Some _ _ (rw (code_at, q) at e) in q ∙ rw w
 
 -- the facts that the code has, in the order of its tests
 module _ (xs : List ℕ) (b : ℕ) (B : b ≡ get_or xs 0 0) (r : Bool) (p : r ≡ plain b) where
-  pub code-itself : r ≡ true → record { size = 1; value = b } ≡ code_at xs
+  pub code-itself : r ≡ true → Some (record { size = 1; value = b }) ≡ code_at xs
   code-itself t = rw B (a-code xs (get_or xs 0 0) 1 (code-plain xs r (rw (← B) p) t))
 
   module _ (f : r ≡ false) where
-    pub code-neither : (b ≡ 37 → ⊥) → record { size = 0; value = 0 } ≡ code_at xs
+    pub code-neither : (b ≡ 37 → ⊥) → None ≡ code_at xs
     code-neither ne = no_code xs (code_other xs r (rw (← B) p) f (rw (← B) ne))
 
     module _ (e : b ≡ 37) (x : ℕ) (X : x ≡ get_or xs 1 0) (h : ℕ) (H : h ≡ hex_or x) where
-      pub code-no-first : 15 < h → record { size = 0; value = 0 } ≡ code_at xs
+      pub code-no-first : 15 < h → None ≡ code_at xs
       code-no-first l = no_code xs (code-first xs r (rw (← B) p) f (sym B ∙ e) h (rw (← X) H) l)
 
       module _ (i : h ≤ 15) (y : ℕ) (Y : y ≡ get_or xs 2 0) (l : ℕ) (L : l ≡ hex_or y) where
-        pub code-no-second : 15 < l → record { size = 0; value = 0 } ≡ code_at xs
+        pub code-no-second : 15 < l → None ≡ code_at xs
         code-no-second k = no_code xs (code-second xs r (rw (← B) p) f (sym B ∙ e) h (rw (← X) H) i l (rw (← Y) L) k)
 
         module _ (j : l ≤ 15) (q : Bool) (Q : q ≡ plain (h * 16 + l)) where
-          pub code-needless : q ≡ true → record { size = 0; value = 0 } ≡ code_at xs
+          pub code-needless : q ≡ true → None ≡ code_at xs
           code-needless t = no_code xs (code-none xs r (rw (← B) p) f (sym B ∙ e) h (rw (← X) H) i l (rw (← Y) L) j q Q t)
 
-          pub code-percent : q ≡ false → record { size = 3; value = h * 16 + l } ≡ code_at xs
+          pub code-percent : q ≡ false → Some (record { size = 3; value = h * 16 + l }) ≡ code_at xs
           code-percent t = a-code xs (h * 16 + l) 3 (code-some xs r (rw (← B) p) f (sym B ∙ e) h (rw (← X) H) i l (rw (← Y) L) j q Q t)
 
 -- ==== texts
@@ -219,49 +231,37 @@ code_fits xs = go (coded_byte xs) refl
     go (got a n) e = rw (code_size, e) (coded-byte-within xs a n e).0
 
 -- one turn of a loop that passes a text
-module _ (s : List ℕ) (at i : ℕ) (c : Code) (e : c ≡ code_at (drop i s)) where
-  size_is : c.size ≡ code_size (drop i s)
-  size_is = ap (λ (x : Code). x.size) e
+module _ (s : List ℕ) (i : ℕ) (c : Code) (e : Some c ≡ code_at (drop i s)) where
+  pub size_is : c.size ≡ code_size (drop i s)
+  size_is = size-some (drop i s) c.value c.size (code-got (drop i s) c e)
 
-  pub text-on : Reaches (many code_size 0) s at i → Reaches (many code_size 0) s at (i + c.size)
-  text-on = many-on code_size code_fits s at i c.size size_is
+  pub size-more : 0 < c.size
+  size-more = omega (arith, coded-byte-within (drop i s) c.value c.size (code-got (drop i s) c e))
 
-  pub text-off : Reaches (many code_size 0) s at i → c.size ≡ 0 → i ≡ at + many code_size 0 (drop at s)
-  text-off = many-off code_size code_fits s at i c.size size_is
+  pub text-on : (at : ℕ) → Reaches (many code_size 0) s at i → Reaches (many code_size 0) s at (i + c.size)
+  text-on at = many-on code_size code_fits s at i c.size size_is
 
-pub text-turn : (s : List ℕ) (i : ℕ) (c : Code) → c ≡ code_at (drop i s) → (c.size ≡ 0 → ⊥) → length s < 2 ^ 64 → machine.Fits w64 (i + c.size)
-text-turn s i c e = turn-fits code_size code_fits s 0 i c.size (size_is s 0 i c e)
+  pub text-turn : length s < 2 ^ 64 → machine.Fits w64 (i + c.size)
+  text-turn = turn-fits code_size code_fits s 0 i c.size size_is (λ z. omega (arith, size-more))
 
-pub text-less : (s : List ℕ) (i : ℕ) (c : Code) → c ≡ code_at (drop i s) → (c.size ≡ 0 → ⊥) → length s - (i + c.size) < length s - i
-text-less s i c e = turn-less code_size code_fits s 0 i c.size (size_is s 0 i c e)
+  pub text-less : length s - (i + c.size) < length s - i
+  text-less = turn-less code_size code_fits s 0 i c.size size_is (λ z. omega (arith, size-more))
 
--- what is left of a text
-module _ (s : List ℕ) (i : ℕ) (c : Code) (k : c ≡ code_at (drop i s)) where
-  abbrev n : ℕ
-  n = c.size
-
-  e : n ≡ code_size (drop i s)
-  e = ap (λ (x : Code). x.size) k
-
-  pub text-none : c.size ≡ 0 → text_of (drop i s) ≡ []
-  unfolding text_of code_size
-  text-none z = go (coded_byte (drop i s)) refl
-    where
-      go : (g : Got ℕ) → coded_byte (drop i s) ≡ g → values (several coded_byte 0 (drop i s)) ≡ []
-      go nothing q = ap values (several-none coded_byte (drop i s) q)
-      go (got a m) q =
-          absurd (let y : m ≡ code_size (drop i s) = size-some (drop i s) a m q in omega (arith, e, z, coded-byte-within (drop i s) a m q))
-
-  pub text-more : (c.size ≡ 0 → ⊥) → text_of (drop i s) ≡ c.value ∷ text_of (drop (i + c.size) s)
+  -- what is left of a text
+  pub text-more : text_of (drop i s) ≡ c.value ∷ text_of (drop (i + c.size) s)
   unfolding text_of
-  text-more ne = go (coded_byte (drop i s)) refl ∙ ap (λ (x : ℕ). x ∷ values (several coded_byte 0 (drop (i + n) s))) (sym (ap (λ (x : Code). x.value) k))
-    where
-      go : (g : Got ℕ) → coded_byte (drop i s) ≡ g → values (several coded_byte 0 (drop i s)) ≡ code_value (drop i s) ∷ values (several coded_byte 0 (drop (i + n) s))
-      go nothing q = absurd (ne (e ∙ sym (size_none (drop i s) q)))
-      go (got a m) q =
-          let w = coded-byte-within (drop i s) a m q in
-          let z : m ≡ n = size-some (drop i s) a m q ∙ sym e in
-          let d : drop m (drop i s) ≡ drop (i + n) s = drop-drop m i s ∙ rw z in
-          let t = several-total coded_byte 0 (drop (i + n) s) in
-          let u : several coded_byte 0 (drop m (drop i s)) ≡ got t.list t.size = rw d t.is in
-          rw (several-again coded_byte (drop i s) a m t.list t.size w.1 w.0 q u, t.is, ← value-some (drop i s) a m q)
+  text-more =
+      let q = code-got (drop i s) c e in
+      let w = coded-byte-within (drop i s) c.value c.size q in
+      let d : drop c.size (drop i s) ≡ drop (i + c.size) s = drop-drop c.size i s in
+      let t = several-total coded_byte 0 (drop (i + c.size) s) in
+      let u : several coded_byte 0 (drop c.size (drop i s)) ≡ got t.list t.size = rw d t.is in
+      rw (several-again coded_byte (drop i s) c.value c.size t.list t.size w.1 w.0 q u, t.is)
+
+module _ (s : List ℕ) (i : ℕ) (e : None ≡ code_at (drop i s)) where
+  pub text-off : (at : ℕ) → Reaches (many code_size 0) s at i → i ≡ at + many code_size 0 (drop at s)
+  text-off at w = many-off code_size code_fits s at i 0 (size_none (drop i s) (code-nothing (drop i s) e)) w refl
+
+  pub text-none : text_of (drop i s) ≡ []
+  unfolding text_of
+  text-none = ap values (several-none coded_byte (drop i s) (code-nothing (drop i s) e))

@@ -22,6 +22,8 @@ use Rattle.result_rules.specs.Table.{table, tabled}
 use Rattle.base_sequences.specs.Spans.{span}
 use Rattle.write_rules.specs.Entries.{whole, is_keyword}
 use Rattle.write_laws.proofs.Keywords.{keyword-is, tabled-keywords}
+use Rattle.std.specs.List.{list_all}
+use mathlib.Core.Path.{ap}
 use Rattle.write_columns.specs.Internal.{column_size, ColumnEnd, column, unclosed}
 
 -- ==== one column
@@ -38,6 +40,21 @@ module _ (s : List ℕ) (at c e : ℕ) (h : e ≡ at + keyword (drop at s)) (r :
 
   pub column-open : r ≡ false → at ≡ at + column_size c (drop at s)
   column-open f = rw (size_is, f) (sym (add-zero at))
+
+-- as the code answers
+module _ (s : List ℕ) (at c e : ℕ) (h : e ≡ at + keyword (drop at s)) where
+  pub column-found : at < e → (r : Bool) → r ≡ eqb (get_or (drop e s) 0 0) c → r ≡ true → (e ≡ at + column_size c (drop at s)) × (at < e)
+  column-found l r p t = (column-closed s at c e h r p t, l)
+
+  pub column-open-none : (r : Bool) → r ≡ eqb (get_or (drop e s) 0 0) c → r ≡ false → column_size c (drop at s) ≡ 0
+  column-open-none r p f = omega (arith, column-open s at c e h r p f)
+
+  pub column-empty : e ≤ at → column_size c (drop at s) ≡ 0
+  column-empty l = go (eqb (get_or (drop e s) 0 0) c) refl
+    where
+      go : (b : Bool) → b ≡ eqb (get_or (drop e s) 0 0) c → column_size c (drop at s) ≡ 0
+      go true p = omega (arith, column-closed s at c e h true p refl)
+      go false p = omega (arith, column-open s at c e h false p refl)
 
 -- its answer: a keyword stands and is closed there, or not
 pub column-ends : (s : List ℕ) (at c : ℕ) → 0 < c → (r : ℕ) → r ≡ at + column_size c (drop at s) → ColumnEnd s at c r
@@ -98,30 +115,10 @@ module _ (k : List ℕ) (e : ℕ) (ne : length k ≡ 0 → ⊥) (q : e ≡ 0 + k
 
 -- ==== no capitals
 
-pub record Lowering (part : List ℕ) (j : ℕ) : Type 0 where
-  pub rest : same (map lower (drop j part)) (drop j part) ≡ same (map lower part) part
-
-pub lowering-start : (part : List ℕ) → Lowering part 0
-lowering-start part = record { rest = refl }
-
-module _ (part : List ℕ) (j : ℕ) (w : Lowering part j) where
-  pub lowering-done : length part ≤ j → true ≡ same (map lower part) part
-  unfolding same
-  lowering-done h = rw (drop_of_length-le part h) at w.rest
-
-  module _ (h : j < length part) (l : ℕ) (q : l ≡ lower (get_or part j 0)) where
-    here : (eqb l (get_or part j 0) && same (map lower (drop (suc j) part)) (drop (suc j) part)) ≡ same (map lower part) part
-    unfolding same
-    here = rw q (rw (drop-cons part j 0 h) at w.rest)
-
-    pub lowering-off : (l ≡ get_or part j 0 → ⊥) → false ≡ same (map lower part) part
-    lowering-off ne = rw (ne_eqb l (get_or part j 0) ne) at here
-
-    pub lowering-on : l ≡ get_or part j 0 → Lowering part (j + 1)
-    lowering-on e = record { rest = rw add-one (rw (eq-eqb l (get_or part j 0) e) at here) }
-
-    pub lowering-less : length part - (j + 1) < length part - j
-    lowering-less = omega arith
+pub lower-all : (part : List ℕ) → list_all (λ (b : ℕ). eqb (lower b) b) part ≡ same (map lower part) part
+unfolding same
+lower-all [] = refl
+lower-all (b ∷ part) = ap (λ (r : Bool). eqb (lower b) b && r) (lower-all part)
 
 -- ==== in the table as they stand
 

@@ -7,7 +7,8 @@ use mathlib.Core.Bool.{Bool, true, false, not, ◌&&◌}
 use mathlib.Core.List.{List, [], ◌∷◌, ◌++◌, map, append-nil}
 use lib.Dec.{eqb, ltb}
 use lib.ListN.{length, drop, take, get_or, length-drop}
-use lib.Seq.{length-take-le, drop-cons, take-length, take-append_seam, drop-append-add}
+use Rattle.std.proofs.lemmas.List.{same_from_push}
+use lib.Seq.{take-suc, length-take-le, drop-cons, take-length, take-append_seam, drop-append-add}
 use borrow.Author.Tests.{eqb-true, eqb-false, eq-eqb, ne_eqb}
 use Rattle.base_sequences.proofs.Booleans.{no_true, both, and_left, and_right, and_none, or_right}
 use Rattle.base_readers.specs.Texts.{one_of, same, starts}
@@ -82,27 +83,29 @@ signing-start part = record { inside = omega arith; none = go part }
     go [] = unfold one_of in refl
     go (x ∷ l) = go l
 
-module _ (part : List ℕ) (j : ℕ) (w : Signing part j) where
-  pub signing-none : j ≤ 0 → length part ≡ length (local_of part)
-  signing-none h = let z : j ≡ 0 = omega arith in ap length (sym (no_cut part (rw z at w.none)))
+pub signing-none : (part : List ℕ) (j : ℕ) → j ≡ 0 → Signing part j → length part ≡ length (local_of part)
+signing-none part j z w = ap length (sym (no_cut part (rw z at w.none)))
 
-  module _ (h : 0 < j) where
-    pub signing-there : j - 1 < length part
-    signing-there = omega (arith, w.inside)
+-- the front of a text that is left, and its last byte
+module _ (part rest front : List ℕ) (last : ℕ) (q : (rest ≡ front ++ (last ∷ [])) × (length front + 1 ≡ length rest)) (p : rest ≡ take (length rest) part) (w : Signing part (length rest)) where
+  there : length front < length part
+  there = omega (arith, w.inside, q.1)
 
-    pub signing-found : get_or part (j - 1) 0 ≡ 64 → j - 1 ≡ length (local_of part)
-    signing-found e = let z : suc (j - 1) ≡ j = omega arith in cut_at part (j - 1) signing-there e (rw z w.none)
+  long : length rest ≡ suc (length front)
+  long = omega (arith, q.1)
 
-    pub signing-more : (get_or part (j - 1) 0 ≡ 64 → ⊥) → Signing part (j - 1)
-    unfolding one_of
-    signing-more ne =
-        let z : suc (j - 1) ≡ j = omega arith in
-        let e : eqb 64 (get_or part (j - 1) 0) ≡ false = ne_eqb 64 _ (λ q. ne (sym q)) in
-        let d : drop (suc (j - 1)) part ≡ drop j part = ap (λ (k : ℕ). drop k part) z in
-        record { inside = omega (arith, w.inside); none = rw (drop-cons part (j - 1) 0 signing-there, e, d) w.none }
+  pair : (front ≡ take (length front) part) × (last ≡ get_or part (length front) 0)
+  pair = same_from_push front (take (length front) part) last (get_or part (length front) 0) (sym q.0 ∙ (p ∙ (ap (λ (k : ℕ). take k part) long ∙ take-suc part (length front) 0 there)))
 
-    pub signing-less : j - 1 < j
-    signing-less = omega arith
+  pub signing-found : last ≡ 64 → length front ≡ length (local_of part)
+  signing-found e = cut_at part (length front) there (sym pair.1 ∙ e) (rw long at w.none)
+
+  pub signing-more : (last ≡ 64 → ⊥) → (front ≡ take (length front) part) × Signing part (length front)
+  unfolding one_of
+  signing-more ne =
+      let e : eqb 64 (get_or part (length front) 0) ≡ false = ne_eqb 64 _ (λ k. ne (pair.1 ∙ sym k)) in
+      let n : one_of (drop (suc (length front)) part) 64 ≡ false = rw long at w.none in
+      (pair.0, record { inside = omega (arith, there); none = rw (drop-cons part (length front) 0 there, e) n })
 
 -- ==== a text that is written is read back
 

@@ -138,3 +138,7 @@ module _ (s : List ℕ) (at b : ℕ) (B : b ≡ get_or (drop at s) 0 0) (k : Boo
               (goes_on (byte 9) _ s (at + 1) tt (at + 2) y tab-from
               (goes_on coded _ s (at + 2) (text_of (span s (at + 2) (e + 1 - 1))) e y (rw u at text-from) (goes_on (byte 10) _ s e tt (e + 1) y (byte_at 10 s e q Q g refl) Y))))
               (rw w c.0) (omega (arith, E)) (omega (arith, there-at (λ b. eqb b 10) refl s e 0 (sym Q ∙ g)))
+
+-- an end that was found is behind its place
+pub shown-after : (s : List ℕ) (at : ℕ) (x : read.Text) → ShownEnd s at (x.end + 1) → x ≡ text_at test.Text s (at + 2) → ShownEnd s at (x.end + 1) × (at < x.end + 1)
+shown-after s at x w X = let e : x.end ≡ at + 2 + many code_size 0 (drop (at + 2) s) = ap (λ (k : read.Text). k.end) X in (w, omega (arith, e))

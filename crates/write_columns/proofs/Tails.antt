@@ -21,7 +21,10 @@ use Rattle.write_columns.specs.declared.coded.Test.{Test}
 use Rattle.write_columns.specs.declared.coded.Test.TheVariants.{Text, Token}
 use Rattle.write_columns.specs.declared.coded.Tail as tail
 use Rattle.write_columns.specs.declared.coded.Text as read
-use Rattle.write_columns.specs.Internal.{coded_byte, code_size, text_of, in_test, text_at, tail_reader, tail_at, TailEnd, ends, endless, end_or}
+use Rattle.write_columns.specs.Internal.{coded_byte, code_size, text_of, in_test, text_at, tail_reader, tail_at, TailEnds, TailMissing}
+use Rattle.write_rules.specs.Entries.{Entry}
+use Rattle.std.specs.Prelude.{Option, Some, None}
+use Rattle.std.proofs.lemmas.Option.{none-some, same_Some}
 use Rattle.write_columns.proofs.Codes.{size-some, size_none}
 
 -- ==== the end of a line
@@ -91,8 +94,8 @@ module _ {A : Type 0} (g : List ℕ → A) (s : List ℕ) (at e : ℕ) (q : e �
 abbrev itself : List ℕ → List ℕ
 itself x = x
 
-abbrev tail_is : ℕ → Bool → tail.Tail
-tail_is e b = record { end = e; bare = b }
+abbrev tail_is : ℕ → Bool → Option tail.Tail
+tail_is e b = Some (record { end = e; bare = b })
 
 module _ (t : Test) (s : List ℕ) (at : ℕ) (x : read.Text) (X : x ≡ text_at t s at) where
   end_is : x.end ≡ at + many code_size 0 (drop at s)
@@ -101,39 +104,72 @@ module _ (t : Test) (s : List ℕ) (at : ℕ) (x : read.Text) (X : x ≡ text_at
   holds-is : x.holds ≡ is_text (text_of (drop at s))
   holds-is = ap (λ (k : read.Text). k.holds) X
 
-  ends_so : (e : ℕ) → e ≡ end_or at (from (tail_reader itself) s at) → tail_is e x.bare ≡ tail_at t s at
-  ends_so e q = rw (q, ap (λ (k : read.Text). k.bare) X)
+  ends_so : (e : ℕ) → got (text_of (drop at s)) e ≡ from (tail_reader itself) s at → tail_is e x.bare ≡ tail_at t s at
+  unfolding tail_at
+  ends_so e q = rw (tail_at, ← q, ap (λ (k : read.Text). k.bare) X)
+
+  ends_not : nothing ≡ from (tail_reader itself) s at → None ≡ tail_at t s at
+  unfolding tail_at
+  ends_not q = rw (tail_at, ← q)
 
   module _ (r : Bool) (p : r ≡ eqb (get_or (drop x.end s) 0 0) 10) where
-    pub line-unfed : r ≡ false → record { end = at; bare = x.bare } ≡ tail_at t s at
-    line-unfed f = ends_so at (ap (end_or at) (tail-unfed itself s at x.end end_is r p f))
+    pub line-unfed : r ≡ false → None ≡ tail_at t s at
+    line-unfed f = ends_not (tail-unfed itself s at x.end end_is r p f)
 
     module _ (y : r ≡ true) where
       pub line-fits : length s < 2 ^ 64 → machine.Fits w64 (x.end + 1)
       line-fits l = there-fits s x.end 10 r p y refl l
 
-      pub line-untexted : x.holds ≡ false → record { end = at; bare = x.bare } ≡ tail_at t s at
-      line-untexted f = ends_so at (ap (end_or at) (tail-untexted itself s at x.end end_is r p y x.holds holds-is f))
+      pub line-untexted : x.holds ≡ false → None ≡ tail_at t s at
+      line-untexted f = ends_not (tail-untexted itself s at x.end end_is r p y x.holds holds-is f)
 
-      pub line-found : x.holds ≡ true → record { end = x.end + 1; bare = x.bare } ≡ tail_at t s at
-      line-found z = ends_so (x.end + 1) (ap (end_or at) (tail-found itself s at x.end end_is r p y x.holds holds-is z))
+      pub line-found : x.holds ≡ true → Some (record { end = x.end + 1; bare = x.bare }) ≡ tail_at t s at
+      line-found z = ends_so (x.end + 1) (tail-found itself s at x.end end_is r p y x.holds holds-is z)
 
 -- ==== its answer
 
 -- the text stands and ends there, or it doesn't stand
-pub tail-ends : (s : List ℕ) (at r : ℕ) → r ≡ end_or at (from (tail_reader (λ (x : List ℕ). x)) s at) → TailEnd s at r
-tail-ends s at r h = fed (eqb (get_or (drop e s) 0 0) 10) refl
-  where
-    e : ℕ
-    e = at + many code_size 0 (drop at s)
+module _ (t : Test) (s : List ℕ) (at : ℕ) where
+  abbrev e : ℕ
+  e = at + many code_size 0 (drop at s)
 
-    texted : (p : eqb (get_or (drop e s) 0 0) 10 ≡ true) (b : Bool) → b ≡ is_text (text_of (drop at s)) → TailEnd s at r
-    texted p true q =
-        let k : r ≡ e + 1 = h ∙ ap (end_or at) (sym (tail-found itself s at e refl true (sym p) refl true q refl)) in
-        rw k
-        (ends (λ g. tail-found g s at e refl true (sym p) refl true q refl) (omega arith) (omega (arith, there-at (λ b. eqb b 10) refl s e 0 p)))
-    texted p false q = endless (λ g. tail-untexted g s at e refl true (sym p) refl false q refl) (h ∙ ap (end_or at) (sym (tail-untexted itself s at e refl true (sym p) refl false q refl)))
+  data Way : Type 0 where
+    stands : (b : eqb (get_or (drop e s) 0 0) 10 ≡ true) → is_text (text_of (drop at s)) ≡ true → Way
+    stops_so : ((f : List ℕ → Entry) → nothing ≡ from (tail_reader f) s at) → nothing ≡ from (tail_reader itself) s at → Way
 
-    fed : (b : Bool) → eqb (get_or (drop e s) 0 0) 10 ≡ b → TailEnd s at r
-    fed true p = texted p (is_text (text_of (drop at s))) refl
-    fed false p = endless (λ g. tail-unfed g s at e refl false (sym p) refl) (h ∙ ap (end_or at) (sym (tail-unfed itself s at e refl false (sym p) refl)))
+  way : Way
+  way = fed (eqb (get_or (drop e s) 0 0) 10) refl
+    where
+      texted : eqb (get_or (drop e s) 0 0) 10 ≡ true → (b : Bool) → is_text (text_of (drop at s)) ≡ b → Way
+      texted p true q = stands p q
+      texted p false q = stops_so (λ g. tail-untexted g s at e refl true (sym p) refl false (sym q) refl) (tail-untexted itself s at e refl true (sym p) refl false (sym q) refl)
+
+      fed : (b : Bool) → eqb (get_or (drop e s) 0 0) 10 ≡ b → Way
+      fed true p = texted p (is_text (text_of (drop at s))) refl
+      fed false p = stops_so (λ g. tail-unfed g s at e refl false (sym p) refl) (tail-unfed itself s at e refl false (sym p) refl)
+
+  pub tail-ends : (l : tail.Tail) → Some l ≡ tail_at t s at → TailEnds s at l.end × (l.bare ≡ whole (run (in_test t)) (text_of (drop at s)))
+  unfolding tail_at
+  tail-ends l h = go way
+    where
+      go : Way → TailEnds s at l.end × (l.bare ≡ whole (run (in_test t)) (text_of (drop at s)))
+      go (stands p q) =
+          let w : l ≡ record { end = e + 1; bare = whole (run (in_test t)) (text_of (drop at s)) } =
+          same_Some _ _ (rw (tail_at, ← tail-found itself s at e refl true (sym p) refl true (sym q) refl) at h) in
+          rw w (
+            record {
+              reads = λ g. tail-found g s at e refl true (sym p) refl true (sym q) refl;
+              after = omega arith;
+              inside = omega (arith, there-at (λ b. eqb b 10) refl s e 0 p);
+            },
+            refl,
+          )
+      go (stops_so f g) = absurd (none-some l (sym (rw (tail_at, ← g) at h)))
+
+  pub tail-missing : None ≡ tail_at t s at → TailMissing s at
+  unfolding tail_at
+  tail-missing h = go way
+    where
+      go : Way → TailMissing s at
+      go (stands p q) = absurd (none-some _ (rw (tail_at, ← tail-found itself s at e refl true (sym p) refl true (sym q) refl) at h))
+      go (stops_so f g) = f

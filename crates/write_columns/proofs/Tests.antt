@@ -15,6 +15,7 @@ use Rattle.result_rules.specs.Results.{in_local_part}
 use Rattle.write_rules.specs.Entries.{each, whole, quotable, is_text}
 use Rattle.write_columns.specs.declared.coded.Test.{Test}
 use Rattle.write_columns.specs.declared.coded.Test.TheVariants.{Text, Token, Identifier, Local}
+use Rattle.std.specs.Prelude.{Option, Some, None, is_some}
 use Rattle.write_columns.specs.declared.coded.Code.{Code}
 use Rattle.write_columns.specs.declared.coded.Text as read
 use Rattle.write_columns.specs.Internal.{code_size, code_at, text_of, in_test, text_at}
@@ -55,15 +56,15 @@ pub record Testing (s : List ℕ) (at : ℕ) (t : Test) (i : ℕ) : Type 0 where
 pub testing-start : (s : List ℕ) (at : ℕ) (t : Test) → Testing s at t at
 testing-start s at t = record { same = refl }
 
-module _ (s : List ℕ) (at : ℕ) (t : Test) (i : ℕ) (w : Testing s at t i) (c : Code) (e : c ≡ code_at (drop i s)) where
-  pub testing-done : c.size ≡ 0 → true ≡ each (in_test t) (text_of (drop at s))
+module _ (s : List ℕ) (at : ℕ) (t : Test) (i : ℕ) (w : Testing s at t i) where
+  pub testing-done : None ≡ code_at (drop i s) → true ≡ each (in_test t) (text_of (drop at s))
   unfolding each
-  testing-done z = rw (text-none s i c e z) at w.same
+  testing-done e = rw (text-none s i e) at w.same
 
-  module _ (ne : c.size ≡ 0 → ⊥) (r : Bool) (q : r ≡ in_test t c.value) where
+  module _ (c : Code) (e : Some c ≡ code_at (drop i s)) (r : Bool) (q : r ≡ in_test t c.value) where
     here : (in_test t c.value && each (in_test t) (text_of (drop (i + c.size) s))) ≡ each (in_test t) (text_of (drop at s))
     unfolding each
-    here = rw (text-more s i c e ne) at w.same
+    here = rw (text-more s i c e) at w.same
 
     pub testing-on : r ≡ true → Testing s at t (i + c.size)
     testing-on h = record { same = rw (← q, h) at here }
@@ -80,17 +81,31 @@ whole_each c l = go (each c l) refl
     go true e = eq-eqb (run c l) (length l) (each-run c l e)
     go false e = ne_eqb (run c l) (length l) (λ q. both (each c l) e (run-each c l q))
 
-module _ (s : List ℕ) (at : ℕ) (c : Code) (t : Test) (e : c ≡ code_at (drop at s)) where
-  pub bare-none : c.size ≡ 0 → false ≡ whole (run (in_test t)) (text_of (drop at s))
+module _ (s : List ℕ) (at : ℕ) (t : Test) where
+  pub bare-none : None ≡ code_at (drop at s) → false ≡ whole (run (in_test t)) (text_of (drop at s))
   unfolding whole
-  bare-none z = rw (text-none s at c e z)
+  bare-none e = rw (text-none s at e)
 
-  pub bare-each : (c.size ≡ 0 → ⊥) → (r : Bool) → r ≡ each (in_test t) (text_of (drop at s)) → r ≡ whole (run (in_test t)) (text_of (drop at s))
-  bare-each ne r q = q ∙ (sym (whole_each (in_test t) (text_of (drop at s))) ∙ go (text_of (drop at s)) (text-more s at c e ne))
+  pub bare-each : (c : Code) → Some c ≡ code_at (drop at s) → (r : Bool) → r ≡ each (in_test t) (text_of (drop at s)) → r ≡ whole (run (in_test t)) (text_of (drop at s))
+  bare-each c e r q = q ∙ (sym (whole_each (in_test t) (text_of (drop at s))) ∙ go (text_of (drop at s)) (text-more s at c e))
     where
       go : (l : List ℕ) → l ≡ c.value ∷ text_of (drop (at + c.size) s) → eqb (run (in_test t) l) (length l) ≡ whole (run (in_test t)) l
       go [] q = absurd (let z : 0 ≡ suc (length (text_of (drop (at + c.size) s))) = ap length q in omega arith)
       go (x ∷ l) q = unfold whole in refl
+
+  -- as the code asks
+  pub bare-if : (o : Option Code) → o ≡ code_at (drop at s) → (is_some o && each (in_test t) (text_of (drop at s))) ≡ whole (run (in_test t)) (text_of (drop at s))
+  bare-if None e = bare-none e
+  bare-if (Some c) e = bare-each c e (each (in_test t) (text_of (drop at s))) refl
+
+  -- by the two tests in turn
+  pub bare-yes : (o : Option Code) → o ≡ code_at (drop at s) → (k : Bool) → k ≡ is_some o → k ≡ true → (r : Bool) → r ≡ each (in_test t) (text_of (drop at s)) → r ≡ whole (run (in_test t)) (text_of (drop at s))
+  bare-yes None e k K y r q = absurd (both k K y)
+  bare-yes (Some c) e k K y r q = bare-each c e r q
+
+  pub bare-no : (o : Option Code) → o ≡ code_at (drop at s) → (k : Bool) → k ≡ is_some o → k ≡ false → k ≡ whole (run (in_test t)) (text_of (drop at s))
+  bare-no None e k K z = z ∙ bare-none e
+  bare-no (Some c) e k K z = absurd (both k z K)
 
 -- ==== one walk
 
@@ -103,17 +118,13 @@ pub record Walking (s : List ℕ) (at : ℕ) (t : Test) (i : ℕ) (h b : Bool) :
   pub holding : (h && is_text (text_of (drop i s))) ≡ is_text (text_of (drop at s))
   pub baring : (b && each (in_test t) (text_of (drop i s))) ≡ whole (run (in_test t)) (text_of (drop at s))
 
-module _ (s : List ℕ) (at : ℕ) (t : Test) (c : Code) (e : c ≡ code_at (drop at s)) where
-  pub walking_start : Walking s at t at true (ltb 0 c.size)
-  walking_start = record { reaches = reaches-start; holding = refl; baring = go c.size refl }
-    where
-      go : (n : ℕ) → c.size ≡ n → (ltb 0 n && each (in_test t) (text_of (drop at s))) ≡ whole (run (in_test t)) (text_of (drop at s))
-      go zero z = bare-none s at c t e z
-      go (suc n) z = rw (lt-ltb 0 (suc n) (omega arith)) (bare-each s at c t e (λ q. omega (arith, z, q)) (each (in_test t) (text_of (drop at s))) refl)
+module _ (s : List ℕ) (at : ℕ) (t : Test) where
+  pub walking_start : (o : Option Code) → o ≡ code_at (drop at s) → (r : Bool) → r ≡ is_some o → Walking s at t at true r
+  walking_start o e r q = record { reaches = reaches-start; holding = refl; baring = rw q (bare-if s at t o e) }
 
-module _ (s : List ℕ) (at : ℕ) (t : Test) (i : ℕ) (h b : Bool) (w : Walking s at t i h b) (c : Code) (e : c ≡ code_at (drop i s)) where
-  pub walking-done : c.size ≡ 0 → record { end = i; holds = h; bare = b } ≡ text_at t s at
-  walking-done z = ends (text-off s at i c e w.reaches z) (none h (is_text (text_of (drop i s))) (ap is_text (text-none s i c e z) ∙ (unfold is_text each in refl)) ∙ w.holding) (none b (each (in_test t) (text_of (drop i s))) (ap (each (in_test t)) (text-none s i c e z) ∙ (unfold each in refl)) ∙ w.baring)
+module _ (s : List ℕ) (at : ℕ) (t : Test) (i : ℕ) (h b : Bool) (w : Walking s at t i h b) where
+  pub walking-done : None ≡ code_at (drop i s) → record { end = i; holds = h; bare = b } ≡ text_at t s at
+  walking-done e = ends (text-off s i e at w.reaches) (none h (is_text (text_of (drop i s))) (ap is_text (text-none s i e) ∙ (unfold is_text each in refl)) ∙ w.holding) (none b (each (in_test t) (text_of (drop i s))) (ap (each (in_test t)) (text-none s i e) ∙ (unfold each in refl)) ∙ w.baring)
     where
       none : (a k : Bool) → k ≡ true → a ≡ (a && k)
       none true k q = sym q
@@ -122,10 +133,10 @@ module _ (s : List ℕ) (at : ℕ) (t : Test) (i : ℕ) (h b : Bool) (w : Walkin
       ends : i ≡ at + many code_size 0 (drop at s) → h ≡ is_text (text_of (drop at s)) → b ≡ whole (run (in_test t)) (text_of (drop at s)) → walked_is i h b ≡ text_at t s at
       ends x y z = rw (x, y, z)
 
-  pub walking_on : (c.size ≡ 0 → ⊥) → (r : Bool) → r ≡ in_test Text c.value → (q : Bool) → q ≡ in_test t c.value → Walking s at t (i + c.size) (h && r) (b && q)
-  walking_on ne r R q Q =
+  pub walking_on : (c : Code) → Some c ≡ code_at (drop i s) → (r : Bool) → r ≡ in_test Text c.value → (q : Bool) → q ≡ in_test t c.value → Walking s at t (i + c.size) (h && r) (b && q)
+  walking_on c e r R q Q =
       record {
-        reaches = text-on s at i c e w.reaches;
+        reaches = text-on s i c e at w.reaches;
         holding = shift h r (is_text (text_of (drop (i + c.size) s))) (is_text (text_of (drop i s))) (holds_more) ∙ w.holding;
         baring = shift b q (each (in_test t) (text_of (drop (i + c.size) s))) (each (in_test t) (text_of (drop i s))) (bare-more) ∙ w.baring;
       }
@@ -135,7 +146,7 @@ module _ (s : List ℕ) (at : ℕ) (t : Test) (i : ℕ) (h b : Bool) (w : Walkin
       shift false x y z e = refl
 
       bare-more : each (in_test t) (text_of (drop i s)) ≡ (q && each (in_test t) (text_of (drop (i + c.size) s)))
-      bare-more = ap (each (in_test t)) (text-more s i c e ne) ∙ (unfold each in rw Q)
+      bare-more = ap (each (in_test t)) (text-more s i c e) ∙ (unfold each in rw Q)
 
       holds_more : is_text (text_of (drop i s)) ≡ (r && is_text (text_of (drop (i + c.size) s)))
-      holds_more = ap is_text (text-more s i c e ne) ∙ (unfold is_text each in_test in rw (R, in_test))
+      holds_more = ap is_text (text-more s i c e) ∙ (unfold is_text each in_test in rw (R, in_test))

@@ -1,5 +1,5 @@
 -- What is said of the columns of a line, for this crate and those that write what it reads: no other contract cites these.
-use Rattle.std.specs.Prelude.{ℕ, ◌+◌, ◌-◌, ◌≤◌, ◌<◌, ◌≡◌, Bool, true, cond, ◌&&◌, List, [], ◌∷◌, eqb, length, get_or, drop}
+use Rattle.std.specs.Prelude.{ℕ, ◌+◌, ◌-◌, ◌≤◌, ◌<◌, ◌≡◌, Bool, true, cond, ◌&&◌, List, [], ◌∷◌, eqb, length, get_or, drop, Option, Some, None, MatchOption}
 use Rattle.base_readers.specs.Readers.{Reader, run, many}
 use Rattle.base_readers.specs.Parsers.{Got, nothing, got, Parser, ◌>>=◌, ◌>>◌, give, when, byte, text, either, several}
 use Rattle.base_readers.specs.Places.{from, values}
@@ -29,15 +29,13 @@ end_or at (got a n) = n
 abbrev pub coded_byte : Parser ℕ
 coded_byte = either (single plain) escaped
 
--- how many bytes it has and what it says; 0 where there is none
+-- how many bytes it has; 0 where there is none
 unfoldable pub code_size : Reader
 code_size xs = elim (coded_byte xs) [ nothing ↦ 0 | got a n ↦ n ]
 
-unfoldable pub code_value : List ℕ → ℕ
-code_value xs = elim (coded_byte xs) [ nothing ↦ 0 | got a n ↦ a ]
-
-abbrev pub code_at : List ℕ → Code
-code_at xs = record { size = code_size xs; value = code_value xs }
+-- how many it has and what it says
+unfoldable pub code_at : List ℕ → Option Code
+code_at xs = elim (coded_byte xs) [ nothing ↦ None | got a n ↦ Some (record { size = n; value = a }) ]
 
 -- the text at the front
 unfoldable pub text_of : List ℕ → List ℕ
@@ -62,13 +60,21 @@ tail_reader f = do
   when (is_text t)
   give (f t)
 
-abbrev pub tail_at : Test → List ℕ → ℕ → tail.Tail
-tail_at t s at = record { end = end_or at (from (tail_reader (λ (x : List ℕ). x)) s at); bare = whole (run (in_test t)) (text_of (drop at s)) }
+unfoldable pub tail_at : Test → List ℕ → ℕ → Option tail.Tail
+tail_at t s at =
+    elim (from (tail_reader (λ (x : List ℕ). x)) s at) [
+      | nothing ↦ None
+      | got x n ↦ Some (record { end = n; bare = whole (run (in_test t)) (text_of (drop at s)) })
+    ]
 
 -- where it ends, whatever is made of the text, or that it isn't there
-pub data TailEnd (s : List ℕ) (at r : ℕ) : Type 0 where
-  ends : ((f : List ℕ → Entry) → got (f (text_of (drop at s))) r ≡ from (tail_reader f) s at) → at < r → r ≤ length s → TailEnd s at r
-  endless : ((f : List ℕ → Entry) → nothing ≡ from (tail_reader f) s at) → r ≡ at → TailEnd s at r
+pub record TailEnds (s : List ℕ) (at r : ℕ) : Type 0 where
+  pub reads : (f : List ℕ → Entry) → got (f (text_of (drop at s))) r ≡ from (tail_reader f) s at
+  pub after : at < r
+  pub inside : r ≤ length s
+
+abbrev pub TailMissing : List ℕ → ℕ → Type 0
+TailMissing s at = (f : List ℕ → Entry) → nothing ≡ from (tail_reader f) s at
 
 -- ==== words
 
@@ -84,6 +90,10 @@ column_reader c q = ◌>>=◌ (text keyword) (λ k. ◌>>◌ (byte c) (q k))
 -- how many bytes the keyword has; 0 where there is none that this byte closes
 unfoldable pub column_size : ℕ → Reader
 column_size c xs = cond (eqb (get_or (drop (keyword xs) xs) 0 0) c) (keyword xs) 0
+
+-- where it ends, if it is there
+abbrev pub ColumnAt : ℕ → List ℕ → ℕ → Option ℕ → Type 0
+ColumnAt c s at r = MatchOption r (column_size c (drop at s) ≡ 0) (λ (e : ℕ). (e ≡ at + column_size c (drop at s)) × (at < e))
 
 -- where it ends, whatever stands behind it, or that it isn't there
 pub data ColumnEnd (s : List ℕ) (at c r : ℕ) : Type 0 where
@@ -118,6 +128,15 @@ pub data ShownEnd (s : List ℕ) (at r : ℕ) : Type 0 where
   shown_end : ((t p : List ℕ) (x : Got Entry) → x ≡ from (◌>>◌ (when (allowed (shown_at t p s at r))) (give (shown (shown_at t p s at r)))) s r → x ≡ from (shown_reader t p) s at)
       → IsCoded (span s (at + 2) (r - 1)) → at + 2 < r → r ≤ length s → ShownEnd s at r
   shown_not : ((t p : List ℕ) → nothing ≡ from (shown_reader t p) s at) → r ≡ at → ShownEnd s at r
+
+-- the same, of an answer
+abbrev pub ValueEnd : List ℕ → ℕ → Option ℕ → Type 0
+ValueEnd s at r = MatchOption r (ShownEnd s at at) (λ (g : ℕ). ShownEnd s at g × (at < g))
+
+-- where a property that may be reported ends, if one stands there
+abbrev pub ShownAt : List ℕ → List ℕ → List ℕ → ℕ → Option ℕ → Type 0
+ShownAt t p s at r =
+    MatchOption r (at ≡ end_or at (from (shown_reader t p) s at)) (λ (g : ℕ). (g ≡ end_or at (from (shown_reader t p) s at)) × (at < g))
 
 -- which property stands behind a ptype and a property name, or that none does
 pub data ShownIs (t p s : List ℕ) (at r : ℕ) : Type 0 where

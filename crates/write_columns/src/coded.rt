@@ -1,11 +1,11 @@
 // Coded texts, and the words in front of them (02, ticket [1]; 01, The report: bytes outside 33 to 126 and "%" are a percent sign and two
 // upper-case hex digits).
 //
-//   code_at(s, at)           the byte of a text at a place, and how many bytes it takes there; 0 and 0 where there is none
+//   code_at(s, at)           the byte of a text at a place, if there is one, and how many bytes it takes there
 //   is_each(s, at, t)        whether every byte of the text at a place is of some
 //   is_bare(s, at, t)        whether the text at a place may be written bare
 //   text_at(s, at, t)        the text at a place: its end, whether a quoted string can hold it, whether it may be written bare
-//   text_line(s, at, t)      the place after the LF behind a text that can stand, or the place itself; whether it may be written bare
+//   text_line(s, at, t)      the place after the LF behind a text that can stand, and whether it may be written bare; if there is one
 //   is_literal(s, at, w)     whether these bytes stand at a place
 ghost use Rattle.std.specs.Prelude.{◌≡◌, drop};
 ghost use Rattle.base_readers.specs.Readers.{run};
@@ -45,39 +45,39 @@ fn hex(b: u8) -> u8
 }
 
 // A byte of a text: how many bytes the report writes for it, and what it is.
-#[derive(Drop)]
+#[derive(Clone, Copy)]
 pub struct Code {
     pub size: usize,
     pub value: u8,
 }
 
-// The byte of a text at a place: itself, or a percent sign and two hex digits where it may not stand itself. Size and value are 0 where
-// there is none.
-pub fn code_at(s: &[u8], at: usize) -> Code
+// The byte of a text at a place, if there is one: itself, or a percent sign and two hex digits where it may not stand itself.
+#[inline(always)]
+pub fn code_at(s: &[u8], at: usize) -> Option<Code>
     ensures { result ≡ code_at (drop at s.now) }
 {
     let b = base_readers::byte(s, at, 0);
     if is_plain(b) {
-        return Code { size: 1, value: b };
+        return Some(Code { size: 1, value: b });
     }
     if b != b'%' {
-        return Code { size: 0, value: 0 };
+        return None;
     }
     let h = hex(base_readers::byte(s, at, 1));
     if h > 15 {
-        return Code { size: 0, value: 0 };
+        return None;
     }
     let l = hex(base_readers::byte(s, at, 2));
     if l > 15 {
-        return Code { size: 0, value: 0 };
+        return None;
     }
     if is_plain(h * 16 + l) {
-        return Code { size: 0, value: 0 };
+        return None;
     }
-    Code {
+    Some(Code {
         size: 3,
         value: h * 16 + l,
-    }
+    })
 }
 
 // What the bytes of a text may have to be of: those that a quoted string can hold, or those that stand bare in a token, in an identifier
@@ -112,32 +112,24 @@ pub fn is_each(s: &[u8], at: usize, t: Test) -> bool
     ensures { result ≡ each (in_test t) (text_of (drop at s.now)) }
 {
     let mut i = at;
-    loop {
-        let c = code_at(s, i);
-        if c.size == 0 {
-            return true;
-        }
-        if in_test(t, c.value) {
-            i += c.size;
-        } else {
+    while let Some(c) = code_at(s, i) {
+        if !in_test(t, c.value) {
             return false;
         }
+        i += c.size;
     }
+    true
 }
 
 // Whether the text at a place may be written bare: it isn't empty, and every byte is of these.
 pub fn is_bare(s: &[u8], at: usize, t: Test) -> bool
     ensures { result ≡ whole (run (in_test t)) (text_of (drop at s.now)) }
 {
-    let c = code_at(s, at);
-    if c.size == 0 {
-        return false;
-    }
-    is_each(s, at, t)
+    code_at(s, at).is_some() && is_each(s, at, t)
 }
 
-// A text: the place where it ends, whether a quoted string can hold it, and whether it may be written bare.
-#[derive(Drop)]
+// A text: the place where it ends, whether a quoted string can hold it, and whether it may be written bare. No flag excludes the place, so there is no Option.
+#[derive(Clone, Copy)]
 pub struct Text {
     pub end: usize,
     pub holds: bool,
@@ -150,59 +142,50 @@ pub fn text_at(s: &[u8], at: usize, t: Test) -> Text
 {
     let mut i = at;
     let mut holds = true;
-    let first = code_at(s, at);
-    let mut bare = first.size > 0;
-    loop {
-        let c = code_at(s, i);
-        if c.size == 0 {
-            return Text {
-                end: i,
-                holds: holds,
-                bare: bare,
-            };
-        }
+    let mut bare = code_at(s, at).is_some();
+    while let Some(c) = code_at(s, i) {
         holds = holds & in_test(Test::Text, c.value);
         bare = bare & in_test(t, c.value);
         i += c.size;
     }
+    Text {
+        end: i,
+        holds,
+        bare,
+    }
 }
 
 // The end of a line that a text closes.
-#[derive(Drop)]
+#[derive(Clone, Copy)]
 pub struct Tail {
     pub end: usize,
     pub bare: bool,
 }
 
-// The place after the LF behind a text that can stand, and whether the text may be written bare.
-pub fn text_line(s: &[u8], at: usize, t: Test) -> Tail
+// The place after the LF behind a text that can stand, if there is one, and whether the text may be written bare.
+pub fn text_line(s: &[u8], at: usize, t: Test) -> Option<Tail>
     ensures { result ≡ tail_at t s.now at }
 {
     let x = text_at(s, at, t);
     if base_readers::is_at(s, x.end, 0, b'\n') {
         if x.holds {
-            return Tail {
+            return Some(Tail {
                 end: x.end + 1,
                 bare: x.bare,
-            };
+            });
         }
     }
-    Tail {
-        end: at,
-        bare: x.bare,
-    }
+    None
 }
 
 // Whether these bytes stand at a place.
 pub fn is_literal(s: &[u8], at: usize, w: &[u8]) -> bool
     ensures { result ≡ spells w.now (drop at s.now) }
 {
-    let mut j: usize = 0;
-    while j < w.len() {
-        if base_readers::byte(s, at, j) != w[j] {
+    for (j, b) in w.iter().enumerate() {
+        if base_readers::byte(s, at, j) != *b {
             return false;
         }
-        j += 1;
     }
     true
 }

@@ -1,16 +1,15 @@
 // Property values in their columns, and whether a body can have them (02, ticket [1]).
 //
 //   last_sign(part)              the place of the last "@" of a text, or its length
-//   shown_end(t, p, s, at)       the place after the LF behind a kind letter and a text that may be reported of this ptype and property, or
-//                                the place itself
+//   shown_end(t, p, s, at)       the place after the LF behind a kind letter and a text that may be reported of this ptype and property, if
+//                                they stand there
 ghost use Rattle.std.specs.Prelude.{◌≡◌, ◌&&◌, length};
 ghost use Rattle.base_readers.specs.Texts.{bytes, one_of};
-ghost use Rattle.base_readers.specs.Places.{from};
 ghost use Rattle.result_rules.specs.Table.{listed, ptypes};
 ghost use Rattle.result_rules.specs.Results as Kind;
 ghost use Rattle.result_rules.specs.Results.{domain};
 ghost use Rattle.write_rules.specs.Entries.{whole, is_keyword, local_of, kind_of, stands, allowed};
-ghost use Rattle.write_columns.specs.Internal.{text_of, IsCoded, made, shown_reader, ShownEnd, end_or};
+ghost use Rattle.write_columns.specs.Internal.{text_of, IsCoded, made, ValueEnd, ShownAt};
 
 use super::coded::Test;
 
@@ -28,12 +27,12 @@ fn is_domain(d: &[u8]) -> bool
 pub fn last_sign(part: &[u8]) -> usize
     ensures { result ≡ length (local_of part.now) }
 {
-    let mut j = part.len();
-    while j > 0 {
-        if part[j - 1] == b'@' {
-            return j - 1;
+    let mut rest = part;
+    while let Some((last, front)) = rest.split_last() {
+        if *last == b'@' {
+            return front.len();
         }
-        j -= 1;
+        rest = front;
     }
     part.len()
 }
@@ -109,18 +108,18 @@ fn is_kind(b: u8) -> bool
 }
 
 // The place after the LF behind a kind letter and a text, whatever they say.
-fn value_end(s: &[u8], at: usize) -> usize
-    ensures { ShownEnd s.now at result }
+fn value_end(s: &[u8], at: usize) -> Option<usize>
+    ensures { ValueEnd s.now at result }
 {
     if is_kind(base_readers::byte(s, at, 0)) {
         if base_readers::is_at(s, at, 1, b'\t') {
             let x = super::coded::text_at(s, at + 2, Test::Text);
             if base_readers::is_at(s, x.end, 0, b'\n') {
-                return x.end + 1;
+                return Some(x.end + 1);
             }
         }
     }
-    at
+    None
 }
 
 // Whether a property may be reported.
@@ -135,16 +134,13 @@ fn is_allowed(t: &[u8], p: &[u8], k: u8, v: &[u8]) -> bool
 }
 
 // The place after the LF behind a kind letter and a text that may be reported of this ptype and property.
-pub fn shown_end(t: &[u8], p: &[u8], s: &[u8], at: usize) -> usize
-    ensures { result ≡ end_or at (from (shown_reader t.now p.now) s.now at) }
+pub fn shown_end(t: &[u8], p: &[u8], s: &[u8], at: usize) -> Option<usize>
+    ensures { ShownAt t.now p.now s.now at result }
 {
-    let g = value_end(s, at);
-    if g == at {
-        return at;
-    }
+    let g = value_end(s, at)?;
     let k = base_readers::byte(s, at, 0);
     if is_allowed(t, p, k, &s[at + 2..g - 1]) {
-        return g;
+        return Some(g);
     }
-    at
+    None
 }

@@ -1,39 +1,34 @@
 // Keyword columns, and whether a method and its result are known (02, ticket [1]: keywords as the report writes them, in lower case).
 //
-//   column_end(s, at, close)     the end of the keyword at a place that this byte closes, or the place itself
+//   column_end(s, at, close)     the end of the keyword at a place that this byte closes, if there is one
 //   is_lower(part)               whether a text has no capitals
 //   is_keyword(p)                whether a text is a keyword in lower case
 //   is_known(method, result)     whether the two, as they stand, are in one row of the table
-ghost use Rattle.std.specs.Prelude.{◌≡◌, map, ◌+◌, drop};
+ghost use Rattle.std.specs.Prelude.{◌≡◌, map};
 ghost use Rattle.base_readers.specs.Texts.{same};
 ghost use Rattle.lexis_rules.specs.Bytes.{lower};
 ghost use Rattle.result_rules.specs.Table.{table, tabled};
 ghost use Rattle.write_rules.specs.Entries.{is_keyword};
-ghost use Rattle.write_columns.specs.Internal.{column_size};
+ghost use Rattle.write_columns.specs.Internal.{ColumnAt};
 
-// The end of the keyword at a place that a byte closes; the place itself where there is none.
-pub fn column_end(s: &[u8], at: usize, close: u8) -> usize
-    ensures { result ≡ at + column_size close (drop at s.now) }
+// The end of the keyword at a place that a byte closes, if there is one.
+pub fn column_end(s: &[u8], at: usize, close: u8) -> Option<usize>
+    ensures { ColumnAt close s.now at result }
 {
     let e = lexis_tokens::keyword_end(s, at);
-    if base_readers::is_at(s, e, 0, close) {
-        return e;
+    if e > at {
+        if base_readers::is_at(s, e, 0, close) {
+            return Some(e);
+        }
     }
-    at
+    None
 }
 
 // Whether a text has no capitals.
 pub fn is_lower(part: &[u8]) -> bool
     ensures { result ≡ same (map lower part.now) part.now }
 {
-    let mut j: usize = 0;
-    while j < part.len() {
-        if text_compare::lower(part[j]) != part[j] {
-            return false;
-        }
-        j += 1;
-    }
-    true
+    part.iter().all(|b| text_compare::lower(*b) == *b)
 }
 
 // Whether a method and its result, as they stand, are in one row of the table.

@@ -13,12 +13,13 @@ use Rattle.base_readers.proofs.Places.{none-at}
 use Rattle.write_columns.specs.Internal.{spells}
 use Rattle.write_columns.proofs.Literals.{literal-not}
 use Rattle.write_rules.specs.Entries.{Entry, literal, id_entry, none_entry, method_entry, reason_entry, property_entry, entry}
+use Rattle.std.specs.Prelude.{Option, Some}
 use Rattle.write_lines.specs.declared.Piece.{Piece}
 use Rattle.write_lines.specs.Internal.{PiecePut, stood, missing, piece_at, bytes_at}
 
 -- an answer by its two places
-abbrev pub piece_is : ℕ → ℕ → Piece
-piece_is e n = record { end = e; next = n }
+abbrev pub piece_is : ℕ → ℕ → Option Piece
+piece_is e n = Some (record { end = e; next = n })
 
 -- ==== which line
 
@@ -67,15 +68,15 @@ abbrev later_reader : Parser Entry
 later_reader = either none_entry result_reader
 
 -- an answer, and what it leaves
-abbrev pub Answered : List ℕ → ℕ → List ℕ → ℕ → List ℕ → Piece → Type 0
-Answered s at old to new r = (r ≡ piece_at at to (from entry s at)) × (new ≡ bytes_at old to (from entry s at))
+abbrev pub Answered : List ℕ → ℕ → List ℕ → ℕ → List ℕ → Option Piece → Type 0
+Answered s at old to new r = (r ≡ piece_at to (from entry s at)) × (new ≡ bytes_at old to (from entry s at))
 
 module _ (s : List ℕ) (at : ℕ) (old : List ℕ) (to b : ℕ) (B : b ≡ get_or (drop at s) 0 0) where
   abbrev xs : List ℕ
   xs = drop at s
 
   -- where only one of the lines may stand there
-  answered : (p : Parser Entry) → entry xs ≡ p xs → (new : List ℕ) (r : Piece) → PiecePut p s at old to new r → Answered s at old to new r
+  answered : (p : Parser Entry) → entry xs ≡ p xs → (new : List ℕ) (r : Option Piece) → PiecePut p s at old to new r → Answered s at old to new r
   unfolding from
   answered p q new r P = go P
     where
@@ -83,9 +84,9 @@ module _ (s : List ℕ) (at : ℕ) (old : List ℕ) (to b : ℕ) (B : b ≡ get_
       e = ap (after at) q
 
       go : PiecePut p s at old to new r → Answered s at old to new r
-      go (stood x a b c d) =
-          let f : from entry s at ≡ got x r.end = e ∙ sym a in
-          (rw f (ap (λ (n : ℕ). piece_is r.end n) d.place), rw f d.bytes)
+      go (stood x y z a b c d) =
+          let f : from entry s at ≡ got x y.end = e ∙ sym a in
+          (rw f (z ∙ ap (λ (n : ℕ). piece_is y.end n) d.place), rw f d.bytes)
       go (missing a b c) = let f : from entry s at ≡ nothing = e ∙ sym a in (rw f b, rw f c)
 
   other : (c d : ℕ) → b ≡ c → eqb c d ≡ false → get_or xs 0 0 ≡ d → ⊥
@@ -97,21 +98,21 @@ module _ (s : List ℕ) (at : ℕ) (old : List ℕ) (to b : ℕ) (B : b ≡ get_
   unlike : (d : ℕ) → (b ≡ d → ⊥) → get_or xs 0 0 ≡ d → ⊥
   unlike d ne g = ne (B ∙ g)
 
-  pub line-id : b ≡ 105 → (new : List ℕ) (r : Piece) → PiecePut id_entry s at old to new r → Answered s at old to new r
+  pub line-id : b ≡ 105 → (new : List ℕ) (r : Option Piece) → PiecePut id_entry s at old to new r → Answered s at old to new r
   unfolding entry
   line-id e =
       answered id_entry
       (either-none xs id_entry later_reader
       (either_second none_entry result_reader xs (no_none xs (other 105 110 e refl)) ∙ (either_second method_entry detail_reader xs (no-method xs (other 105 109 e refl)) ∙ detailed 105 e refl refl)))
 
-  pub line-none : b ≡ 110 → (new : List ℕ) (r : Piece) → PiecePut none_entry s at old to new r → Answered s at old to new r
+  pub line-none : b ≡ 110 → (new : List ℕ) (r : Option Piece) → PiecePut none_entry s at old to new r → Answered s at old to new r
   unfolding entry
   line-none e =
       answered none_entry
       (either_second id_entry later_reader xs (no-id xs (other 110 105 e refl))
       ∙ either-none xs none_entry result_reader (either_second method_entry detail_reader xs (no-method xs (other 110 109 e refl)) ∙ detailed 110 e refl refl))
 
-  pub line-method : b ≡ 109 → (new : List ℕ) (r : Piece) → PiecePut method_entry s at old to new r → Answered s at old to new r
+  pub line-method : b ≡ 109 → (new : List ℕ) (r : Option Piece) → PiecePut method_entry s at old to new r → Answered s at old to new r
   unfolding entry
   line-method e =
       answered method_entry
@@ -125,8 +126,8 @@ module _ (s : List ℕ) (at : ℕ) (old : List ℕ) (to b : ℕ) (B : b ≡ get_
         either_second id_entry later_reader xs (no-id xs (unlike 105 i))
         ∙ (either_second none_entry result_reader xs (no_none xs (unlike 110 n)) ∙ either_second method_entry detail_reader xs (no-method xs (unlike 109 m)))
 
-    pub line-reason : b ≡ 114 → (new : List ℕ) (r : Piece) → PiecePut reason_entry s at old to new r → Answered s at old to new r
+    pub line-reason : b ≡ 114 → (new : List ℕ) (r : Option Piece) → PiecePut reason_entry s at old to new r → Answered s at old to new r
     line-reason e = answered reason_entry (late ∙ either-none xs reason_entry property_entry (no-property xs (other 114 112 e refl)))
 
-    pub line-property : (b ≡ 114 → ⊥) → (new : List ℕ) (r : Piece) → PiecePut property_entry s at old to new r → Answered s at old to new r
+    pub line-property : (b ≡ 114 → ⊥) → (new : List ℕ) (r : Option Piece) → PiecePut property_entry s at old to new r → Answered s at old to new r
     line-property o = answered property_entry (late ∙ either_second reason_entry property_entry xs (no-reason xs (unlike 114 o)))

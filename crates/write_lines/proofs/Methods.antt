@@ -18,6 +18,7 @@ use Rattle.base_sequences.specs.Spans.{span}
 use Rattle.write_rules.specs.Entries.{Entry, judged, literal, method_entry}
 use Rattle.write_rules.specs.Bodies.{piece}
 use Rattle.write_columns.specs.Internal.{spells, column_reader, column_size, ColumnEnd, column, unclosed}
+use Rattle.std.specs.Prelude.{Option, Some, None}
 use Rattle.write_lines.specs.Internal.{PiecePut, stood, missing}
 use Rattle.write_lines.proofs.Answers.{piece_is}
 use Rattle.write_columns.proofs.Literals.{literal-from, literal-not, literal-there}
@@ -40,7 +41,7 @@ abbrev known_reader : List ℕ → List ℕ → Parser Entry
 known_reader m r = ◌>>◌ (when (tabled table m r)) (give (judged m r))
 
 module _ (s : List ℕ) (at : ℕ) (r : Bool) (p : r ≡ spells (109 ∷ 9 ∷ []) (drop at s)) where
-  pub method-unlike : (old : List ℕ) (to : ℕ) → r ≡ false → PiecePut method_entry s at old to old (record { end = at; next = to })
+  pub method-unlike : (old : List ℕ) (to : ℕ) → r ≡ false → PiecePut method_entry s at old to old None
   unfolding method_entry
   method-unlike old to n = missing (stops (literal (109 ∷ 9 ∷ [])) _ s at (literal-not (109 ∷ 9 ∷ []) s at (sym n ∙ p))) refl refl
 
@@ -55,11 +56,11 @@ module _ (s : List ℕ) (at : ℕ) (r : Bool) (p : r ≡ spells (109 ∷ 9 ∷ [
       k : ColumnEnd s (at + 2) 9 e
       k = column-ends s (at + 2) 9 (omega arith) e k₀
 
-      pub method-first : (old : List ℕ) (to : ℕ) → e ≡ at + 2 → PiecePut method_entry s at old to old (record { end = at; next = to })
+      pub method-first : (old : List ℕ) (to : ℕ) → e ≡ at + 2 → PiecePut method_entry s at old to old None
       unfolding method_entry
       method-first old to z = go k
         where
-          go : ColumnEnd s (at + 2) 9 e → PiecePut method_entry s at old to old (piece_is at to)
+          go : ColumnEnd s (at + 2) 9 e → PiecePut method_entry s at old to old None
           go (column g l b) = absurd (omega arith)
           go (unclosed g l) = missing (goes_on (literal (109 ∷ 9 ∷ [])) _ s at tt (at + 2) nothing word-from (g (λ m. column_reader 10 (known_reader m)))) refl refl
 
@@ -90,10 +91,10 @@ module _ (s : List ℕ) (at : ℕ) (r : Bool) (p : r ≡ spells (109 ∷ 9 ∷ [
           j : ColumnEnd s (e + 1) 10 f
           j = column-ends s (e + 1) 10 (omega arith) f j₀
 
-          pub method-second : (old : List ℕ) (to : ℕ) → f ≡ e + 1 → PiecePut method_entry s at old to old (record { end = at; next = to })
+          pub method-second : (old : List ℕ) (to : ℕ) → f ≡ e + 1 → PiecePut method_entry s at old to old None
           method-second old to z = go j
             where
-              go : ColumnEnd s (e + 1) 10 f → PiecePut method_entry s at old to old (piece_is at to)
+              go : ColumnEnd s (e + 1) 10 f → PiecePut method_entry s at old to old None
               go (column g l b) = absurd (omega arith)
               go (unclosed g l) = missing (behind nothing (g (known_reader (span s (at + 2) e)))) refl refl
 
@@ -119,13 +120,13 @@ module _ (s : List ℕ) (at : ℕ) (r : Bool) (p : r ≡ spells (109 ∷ 9 ∷ [
                 go (unclosed g l) = absurd (nf l)
 
             module _ (b : Bool) (q : b ≡ tabled table (span s (at + 2) e) (span s (e + 1) f)) where
-              pub method-unknown : (old : List ℕ) (to : ℕ) → b ≡ false → PiecePut method_entry s at old to old (record { end = at; next = to })
+              pub method-unknown : (old : List ℕ) (to : ℕ) → b ≡ false → PiecePut method_entry s at old to old None
               method-unknown old to n = missing (last nothing (stops (when _) _ s (f + 1) (fails _ s (f + 1) (sym q ∙ n)))) refl refl
 
               pub method-put : b ≡ true → (o₀ : List ℕ) (to : ℕ) (o₁ : List ℕ) (n : ℕ) → Clipped o₀ to (piece (judged (span s (at + 2) e) (span s (e + 1) f))) o₁ n
-                  → PiecePut method_entry s at o₀ to o₁ (record { end = f + 1; next = n })
+                  → PiecePut method_entry s at o₀ to o₁ (Some (record { end = f + 1; next = n }))
               method-put t o₀ to o₁ n u =
-                  stood (judged (span s (at + 2) e) (span s (e + 1) f))
+                  stood (judged (span s (at + 2) e) (span s (e + 1) f)) _ refl
                   (last (got (judged (span s (at + 2) e) (span s (e + 1) f)) (f + 1))
                   (goes_on (when (tabled table (span s (at + 2) e) (span s (e + 1) f))) _ s (f + 1) tt (f + 1) _ (passes _ s (f + 1) (sym q ∙ t)) (gives (judged (span s (at + 2) e) (span s (e + 1) f)) s (f + 1))))
                   (omega (arith, first-inside, second-inside)) (omega (arith, second-inside)) u

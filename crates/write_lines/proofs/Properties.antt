@@ -19,6 +19,7 @@ use Rattle.write_lines.specs.declared.Piece.{Piece}
 use Rattle.write_columns.specs.Internal.{text_of, spells, column_reader, column_size, ColumnEnd, column, unclosed, made, shown_reader, IsCoded, shown_at, ShownIs, shown_is, unshown, end_or}
 use Rattle.write_texts.specs.Values.{written_value}
 use Rattle.write_texts.proofs.Values.{written_is}
+use Rattle.std.specs.Prelude.{Option, Some, None}
 use Rattle.write_lines.specs.Internal.{written_shown, PiecePut, stood, missing}
 use Rattle.write_lines.proofs.Answers.{piece_is}
 use Rattle.write_columns.proofs.Literals.{literal-from, literal-not, literal-there}
@@ -47,10 +48,10 @@ module _ (t p s : List ℕ) (at g : ℕ) (G : g ≡ end_or at (from (shown_reade
   E : ShownIs t p s at g
   E = shown-is t p s at g G
 
-  pub valued_not : (old : List ℕ) (to : ℕ) → g ≡ at → PiecePut (shown_reader t p) s at old to old (record { end = at; next = to })
+  pub valued_not : (old : List ℕ) (to : ℕ) → g ≡ at → PiecePut (shown_reader t p) s at old to old None
   valued_not old to z = go E
     where
-      go : ShownIs t p s at g → PiecePut (shown_reader t p) s at old to old (piece_is at to)
+      go : ShownIs t p s at g → PiecePut (shown_reader t p) s at old to old None
       go (shown_is f c y l b) = absurd (omega arith)
       go (unshown f l) = missing f refl refl
 
@@ -75,13 +76,13 @@ module _ (t p s : List ℕ) (at g : ℕ) (G : g ≡ end_or at (from (shown_reade
     valued-inside = omega (arith, valued-in)
 
     pub valued-put : (k : ℕ) → k ≡ get_or (drop at s) 0 0 → (old new : List ℕ) (to n : ℕ) → Clipped old to (written_shown t p k (span s (at + 2) (g - 1))) new n
-        → PiecePut (shown_reader t p) s at old to new (record { end = g; next = n })
+        → PiecePut (shown_reader t p) s at old to new (Some (record { end = g; next = n }))
     valued-put k K old new to n w = go E
       where
         go : ShownIs t p s at g → PiecePut (shown_reader t p) s at old to new (piece_is g n)
         go (shown_is f c y l b) =
             let e : written_shown t p k (span s (at + 2) (g - 1)) ≡ piece (shown (shown_at t p s at g)) = rw K (shown-piece t p (get_or (drop at s) 0 0) (span s (at + 2) (g - 1)) c y) in
-            stood (shown (shown_at t p s at g)) f (omega arith) b (subst (λ (l : List ℕ). Clipped old to l new n) e w)
+            stood (shown (shown_at t p s at g)) _ refl f (omega arith) b (subst (λ (l : List ℕ). Clipped old to l new n) e w)
         go (unshown f l) = absurd (ne l)
 
 -- ==== `p`
@@ -93,7 +94,7 @@ labelled-is : (s : List ℕ) (at : ℕ) → from labelled_reader s at ≡ from p
 labelled-is s at = unfold property_entry shown_reader in refl
 
 module _ (s : List ℕ) (at : ℕ) (r : Bool) (q : r ≡ spells (112 ∷ 9 ∷ []) (drop at s)) where
-  pub property-unlike : (old : List ℕ) (to : ℕ) → r ≡ false → PiecePut property_entry s at old to old (record { end = at; next = to })
+  pub property-unlike : (old : List ℕ) (to : ℕ) → r ≡ false → PiecePut property_entry s at old to old None
   property-unlike old to n = missing (stops (literal (112 ∷ 9 ∷ [])) _ s at (literal-not (112 ∷ 9 ∷ []) s at (sym n ∙ q)) ∙ labelled-is s at) refl refl
 
   module _ (y : r ≡ true) where
@@ -107,10 +108,10 @@ module _ (s : List ℕ) (at : ℕ) (r : Bool) (q : r ≡ spells (112 ∷ 9 ∷ [
       k : ColumnEnd s (at + 2) 9 e
       k = column-ends s (at + 2) 9 (omega arith) e k₀
 
-      pub property-first : (old : List ℕ) (to : ℕ) → e ≡ at + 2 → PiecePut property_entry s at old to old (record { end = at; next = to })
+      pub property-first : (old : List ℕ) (to : ℕ) → e ≡ at + 2 → PiecePut property_entry s at old to old None
       property-first old to z = go k
         where
-          go : ColumnEnd s (at + 2) 9 e → PiecePut property_entry s at old to old (piece_is at to)
+          go : ColumnEnd s (at + 2) 9 e → PiecePut property_entry s at old to old None
           go (column g l b) = absurd (omega arith)
           go (unclosed g l) = missing (goes_on (literal (112 ∷ 9 ∷ [])) _ s at tt (at + 2) nothing word-from (g (λ t. column_reader 9 (λ p. shown_reader t p))) ∙ labelled-is s at) refl refl
 
@@ -139,10 +140,10 @@ module _ (s : List ℕ) (at : ℕ) (r : Bool) (q : r ≡ spells (112 ∷ 9 ∷ [
           j : ColumnEnd s (e + 1) 9 f
           j = column-ends s (e + 1) 9 (omega arith) f j₀
 
-          pub property-second : (old : List ℕ) (to : ℕ) → f ≡ e + 1 → PiecePut property_entry s at old to old (record { end = at; next = to })
+          pub property-second : (old : List ℕ) (to : ℕ) → f ≡ e + 1 → PiecePut property_entry s at old to old None
           property-second old to z = go j
             where
-              go : ColumnEnd s (e + 1) 9 f → PiecePut property_entry s at old to old (piece_is at to)
+              go : ColumnEnd s (e + 1) 9 f → PiecePut property_entry s at old to old None
               go (column g l b) = absurd (omega arith)
               go (unclosed g l) = missing (behind-first nothing (g (λ p. shown_reader (span s (at + 2) e) p))) refl refl
 
@@ -167,17 +168,7 @@ module _ (s : List ℕ) (at : ℕ) (r : Bool) (q : r ≡ spells (112 ∷ 9 ∷ [
                 go (column g l b) = g (λ p. shown_reader (span s (at + 2) e) p) x X
                 go (unclosed g l) = absurd (nf l)
 
-            module _ (old new : List ℕ) (to : ℕ) (w : Piece) (P : PiecePut (shown_reader (span s (at + 2) e) (span s (e + 1) f)) s (f + 1) old to new w) where
-              pub property-unshown : w.end ≡ f + 1 → PiecePut property_entry s at old to new (record { end = at; next = to })
-              property-unshown z = go P
-                where
-                  go : PiecePut (shown_reader (span s (at + 2) e) (span s (e + 1) f)) s (f + 1) old to new w → PiecePut property_entry s at old to new (piece_is at to)
-                  go (stood x a b c d) = absurd (omega arith)
-                  go (missing a b c) = missing (behind-second nothing a) refl c
-
-              pub property-shown : (w.end ≡ f + 1 → ⊥) → PiecePut property_entry s at old to new w
-              property-shown nz = go P
-                where
-                  go : PiecePut (shown_reader (span s (at + 2) e) (span s (e + 1) f)) s (f + 1) old to new w → PiecePut property_entry s at old to new w
-                  go (stood x a b c d) = stood x (behind-second (got x w.end) a) (omega (arith, first-inside, second-inside)) c d
-                  go (missing a b c) = absurd (nz (ap (λ (x : Piece). x.end) b))
+            pub property-shown : (old new : List ℕ) (to : ℕ) (w : Option Piece) → PiecePut (shown_reader (span s (at + 2) e) (span s (e + 1) f)) s (f + 1) old to new w
+                → PiecePut property_entry s at old to new w
+            property-shown old new to w (stood x y z a b c d) = stood x y z (behind-second (got x y.end) a) (omega (arith, first-inside, second-inside, b)) c d
+            property-shown old new to w (missing a b c) = missing (behind-second nothing a) b c

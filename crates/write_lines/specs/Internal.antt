@@ -1,6 +1,6 @@
 -- What is said of a line as its piece of the body, for this crate and the one that writes all lines: no other contract cites these.
 use Prim.Native.Char.{code}
-use Rattle.std.specs.Prelude.{ℕ, ◌+◌, ◌≤◌, ◌<◌, min, ◌≡◌, List, ◌∷◌, ◌++◌, length}
+use Rattle.std.specs.Prelude.{ℕ, ◌+◌, ◌≤◌, ◌<◌, min, ◌≡◌, List, ◌∷◌, ◌++◌, length, Option, Some, None}
 use Rattle.std.proofs.lemmas.List.Edits.{sets}
 use Rattle.base_sequences.specs.Stored.{cap, Clipped}
 use Rattle.base_readers.specs.Parsers.{Got, nothing, got, Parser}
@@ -12,10 +12,10 @@ use Rattle.write_lines.specs.declared.Piece.{Piece}
 
 -- ==== a line
 
--- the place after the line at a place, and the place after what it adds to the body
-abbrev pub piece_at : ℕ → ℕ → Got Entry → Piece
-piece_at at to nothing = record { end = at; next = to }
-piece_at at to (got e n) = record { end = n; next = min (to + length (piece e)) cap }
+-- the place after the line, and the place after what it adds to the body
+abbrev pub piece_at : ℕ → Got Entry → Option Piece
+piece_at to nothing = None
+piece_at to (got e n) = Some (record { end = n; next = min (to + length (piece e)) cap })
 
 -- what is left in the buffer
 abbrev pub bytes_at : List ℕ → ℕ → Got Entry → List ℕ
@@ -29,6 +29,6 @@ unfoldable pub written_shown : List ℕ → List ℕ → ℕ → List ℕ → Li
 written_shown t p k v = code " " ∷ (t ++ (code "." ∷ (p ++ (code "=" ∷ written_value k v))))
 
 -- what a parser reads at a place is stored, or it reads nothing and nothing is stored
-pub data PiecePut (p : Parser Entry) (s : List ℕ) (at : ℕ) (old : List ℕ) (to : ℕ) (new : List ℕ) (r : Piece) : Type 0 where
-  stood : (e : Entry) → got e r.end ≡ from p s at → at < r.end → r.end ≤ length s → Clipped old to (piece e) new r.next → PiecePut p s at old to new r
-  missing : nothing ≡ from p s at → r ≡ record { end = at; next = to } → new ≡ old → PiecePut p s at old to new r
+pub data PiecePut (p : Parser Entry) (s : List ℕ) (at : ℕ) (old : List ℕ) (to : ℕ) (new : List ℕ) (r : Option Piece) : Type 0 where
+  stood : (e : Entry) (x : Piece) → r ≡ Some x → got e x.end ≡ from p s at → at < x.end → x.end ≤ length s → Clipped old to (piece e) new x.next → PiecePut p s at old to new r
+  missing : nothing ≡ from p s at → r ≡ None → new ≡ old → PiecePut p s at old to new r

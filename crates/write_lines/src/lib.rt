@@ -2,7 +2,7 @@
 //
 // `put_line(s, at, out, to)` reads the line at a place of `s`, stores what it adds to a body in `out` from `to` on, as far as there is room,
 // and answers the place after the line and the place after what it adds. Places in `out` stop at the largest one, so that no sum is too
-// large. Where no line stands that a body can have, it answers the two places that it was given and stores nothing.
+// large. Where no line stands that a body can have, there is no answer, and it stores nothing.
 #![tactic(auto)]
 
 ghost use Rattle.std.specs.Prelude.{◌≡◌, ◌∷◌, ◌++◌};
@@ -25,44 +25,41 @@ fn put_pair(a: &[u8], separator: u8, b: &[u8], out: &mut [u8], to: usize) -> usi
 }
 
 // A line that was read and what it adds to the body: the place after it, and the place after what was stored.
-#[derive(Drop)]
+#[derive(Clone, Copy)]
 pub struct Piece {
     pub end: usize,
     pub next: usize,
 }
 
 // The line `id`, text.
-fn put_id(s: &[u8], at: usize, out: &mut [u8], to: usize) -> Piece
+fn put_id(s: &[u8], at: usize, out: &mut [u8], to: usize) -> Option<Piece>
     ensures { PiecePut id_entry s.now at out.old to out.new result }
 {
-    if write_columns::coded::is_literal(s, at, b"id\t") {
-        let a = at + 3;
-        let l = write_columns::coded::text_line(s, a, Test::Identifier);
-        if l.end == a {
-            return Piece { end: at, next: to };
-        }
-        let n = text_write::put_byte(b' ', out, to);
-        let m = write_texts::put_value(s, a, l.bare, out, n);
-        return Piece {
-            end: l.end,
-            next: m,
-        };
+    if !write_columns::coded::is_literal(s, at, b"id\t") {
+        return None;
     }
-    Piece { end: at, next: to }
+    let a = at + 3;
+    let l = write_columns::coded::text_line(s, a, Test::Identifier)?;
+    let n = text_write::put_byte(b' ', out, to);
+    let m = write_texts::put_value(s, a, l.bare, out, n);
+    Some(Piece {
+        end: l.end,
+        next: m,
+    })
 }
 
 // The line `none`.
-fn put_none(s: &[u8], at: usize, out: &mut [u8], to: usize) -> Piece
+fn put_none(s: &[u8], at: usize, out: &mut [u8], to: usize) -> Option<Piece>
     ensures { PiecePut none_entry s.now at out.old to out.new result }
 {
-    if write_columns::coded::is_literal(s, at, b"none\n") {
-        let n = text_write::put_part(b"; none", out, to);
-        return Piece {
-            end: at + 5,
-            next: n,
-        };
+    if !write_columns::coded::is_literal(s, at, b"none\n") {
+        return None;
     }
-    Piece { end: at, next: to }
+    let n = text_write::put_part(b"; none", out, to);
+    Some(Piece {
+        end: at + 5,
+        next: n,
+    })
 }
 
 // Stores what a method and its result add to a body.
@@ -74,51 +71,43 @@ fn put_known(method: &[u8], res: &[u8], out: &mut [u8], to: usize) -> usize
 }
 
 // The line `m`, method, result.
-fn put_method(s: &[u8], at: usize, out: &mut [u8], to: usize) -> Piece
+fn put_method(s: &[u8], at: usize, out: &mut [u8], to: usize) -> Option<Piece>
     ensures { PiecePut method_entry s.now at out.old to out.new result }
 {
-    if write_columns::coded::is_literal(s, at, b"m\t") {
-        let a = at + 2;
-        let e = write_columns::words::column_end(s, a, b'\t');
-        if e == a {
-            return Piece { end: at, next: to };
-        }
-        let b = e + 1;
-        let f = write_columns::words::column_end(s, b, b'\n');
-        if f == b {
-            return Piece { end: at, next: to };
-        }
-        let method = &s[a..e];
-        let result = &s[b..f];
-        if write_columns::words::is_known(method, result) {
-            let n = put_known(method, result, out, to);
-            return Piece {
-                end: f + 1,
-                next: n,
-            };
-        }
+    if !write_columns::coded::is_literal(s, at, b"m\t") {
+        return None;
     }
-    Piece { end: at, next: to }
+    let a = at + 2;
+    let e = write_columns::words::column_end(s, a, b'\t')?;
+    let b = e + 1;
+    let f = write_columns::words::column_end(s, b, b'\n')?;
+    let method = &s[a..e];
+    let result = &s[b..f];
+    if !write_columns::words::is_known(method, result) {
+        return None;
+    }
+    let n = put_known(method, result, out, to);
+    Some(Piece {
+        end: f + 1,
+        next: n,
+    })
 }
 
 // The line `r`, text.
-fn put_reason(s: &[u8], at: usize, out: &mut [u8], to: usize) -> Piece
+fn put_reason(s: &[u8], at: usize, out: &mut [u8], to: usize) -> Option<Piece>
     ensures { PiecePut reason_entry s.now at out.old to out.new result }
 {
-    if write_columns::coded::is_literal(s, at, b"r\t") {
-        let b = at + 2;
-        let l = write_columns::coded::text_line(s, b, Test::Token);
-        if l.end == b {
-            return Piece { end: at, next: to };
-        }
-        let n = text_write::put_part(b" reason=", out, to);
-        let m = write_texts::put_value(s, b, l.bare, out, n);
-        return Piece {
-            end: l.end,
-            next: m,
-        };
+    if !write_columns::coded::is_literal(s, at, b"r\t") {
+        return None;
     }
-    Piece { end: at, next: to }
+    let b = at + 2;
+    let l = write_columns::coded::text_line(s, b, Test::Token)?;
+    let n = text_write::put_part(b" reason=", out, to);
+    let m = write_texts::put_value(s, b, l.bare, out, n);
+    Some(Piece {
+        end: l.end,
+        next: m,
+    })
 }
 
 // Stores what a property adds to a body, from its columns.
@@ -132,46 +121,32 @@ fn put_shown(t: &[u8], p: &[u8], k: u8, v: &[u8], out: &mut [u8], to: usize) -> 
 }
 
 // What stands behind ptype and property.
-fn put_valued(t: &[u8], p: &[u8], s: &[u8], at: usize, out: &mut [u8], to: usize) -> Piece
+fn put_valued(t: &[u8], p: &[u8], s: &[u8], at: usize, out: &mut [u8], to: usize) -> Option<Piece>
     ensures { PiecePut (shown_reader t.now p.now) s.now at out.old to out.new result }
 {
-    let g = write_columns::shown::shown_end(t, p, s, at);
-    if g == at {
-        return Piece { end: at, next: to };
-    }
+    let g = write_columns::shown::shown_end(t, p, s, at)?;
     let k = base_readers::byte(s, at, 0);
     let n = put_shown(t, p, k, &s[at + 2..g - 1], out, to);
-    Piece { end: g, next: n }
+    Some(Piece { end: g, next: n })
 }
 
 // The line `p`, ptype, property, kind letter, text.
-fn put_property(s: &[u8], at: usize, out: &mut [u8], to: usize) -> Piece
+fn put_property(s: &[u8], at: usize, out: &mut [u8], to: usize) -> Option<Piece>
     ensures { PiecePut property_entry s.now at out.old to out.new result }
 {
-    if write_columns::coded::is_literal(s, at, b"p\t") {
-        let a = at + 2;
-        let e = write_columns::words::column_end(s, a, b'\t');
-        if e == a {
-            return Piece { end: at, next: to };
-        }
-        let b = e + 1;
-        let f = write_columns::words::column_end(s, b, b'\t');
-        if f == b {
-            return Piece { end: at, next: to };
-        }
-        let c = f + 1;
-        let r = put_valued(&s[a..e], &s[b..f], s, c, out, to);
-        if r.end == c {
-            return Piece { end: at, next: to };
-        }
-        return r;
+    if !write_columns::coded::is_literal(s, at, b"p\t") {
+        return None;
     }
-    Piece { end: at, next: to }
+    let a = at + 2;
+    let e = write_columns::words::column_end(s, a, b'\t')?;
+    let b = e + 1;
+    let f = write_columns::words::column_end(s, b, b'\t')?;
+    put_valued(&s[a..e], &s[b..f], s, f + 1, out, to)
 }
 
 // The line at a place, stored as its piece of the body: its first byte tells which line it may be.
-pub fn put_line(s: &[u8], at: usize, out: &mut [u8], to: usize) -> Piece
-    ensures value { result ≡ piece_at at to (from entry s.now at) }
+pub fn put_line(s: &[u8], at: usize, out: &mut [u8], to: usize) -> Option<Piece>
+    ensures value { result ≡ piece_at to (from entry s.now at) }
     ensures out_after { out.new ≡ bytes_at out.old to (from entry s.now at) }
 {
     let b = base_readers::byte(s, at, 0);

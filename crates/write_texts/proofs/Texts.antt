@@ -13,6 +13,7 @@ use Rattle.base_sequences.specs.Stored.{Clipped}
 use Rattle.base_sequences.proofs.Clips.{Going, going_start, going_step, going_done, clipped-then, clipped-long}
 use Rattle.base_readers.specs.Texts.{bytes, one_of}
 use Rattle.write_rules.specs.Bodies.{guarded, quote, bare_or}
+use Rattle.std.specs.Prelude.{Some, None}
 use Rattle.write_columns.specs.declared.coded.Code.{Code}
 use Rattle.write_columns.specs.Internal.{code_at, text_of}
 use Rattle.write_columns.proofs.Codes.{text-none, text-more}
@@ -80,16 +81,16 @@ module _ (s : List ℕ) (at : ℕ) (q : Bool) (old : List ℕ) (to : ℕ) (out :
   pub texting-long : length out ≡ length old
   texting-long = w.going.long
 
-  module _ (c : Code) (e : c ≡ code_at (drop i s)) where
-    pub texting-done : c.size ≡ 0 → Clipped old to (guarded_if q (text_of (drop at s))) out m
-    texting-done z = going_done w.going (ap (guarded_if q) (text-none s i c e z) ∙ guarded-none q)
+  pub texting-done : None ≡ code_at (drop i s) → Clipped old to (guarded_if q (text_of (drop at s))) out m
+  texting-done e = going_done w.going (ap (guarded_if q) (text-none s i e) ∙ guarded-none q)
 
-    pub texting-more : (c.size ≡ 0 → ⊥) → length old < 2 ^ 64 → (out' : List ℕ) (m' : ℕ) → Clipped out m (guarded_if q (c.value ∷ [])) out' m'
+  module _ (c : Code) (e : Some c ≡ code_at (drop i s)) where
+    pub texting-more : length old < 2 ^ 64 → (out' : List ℕ) (m' : ℕ) → Clipped out m (guarded_if q (c.value ∷ [])) out' m'
         → Texting s at q old to out' (i + c.size) m'
-    texting-more ne h out' m' k =
+    texting-more h out' m' k =
         record {
           going =
-              going_step (omega (arith, h)) w.going (ap (guarded_if q) (text-more s i c e ne) ∙ guarded-more q c.value (text_of (drop (i + c.size) s))) k;
+              going_step (omega (arith, h)) w.going (ap (guarded_if q) (text-more s i c e) ∙ guarded-more q c.value (text_of (drop (i + c.size) s))) k;
         }
 
 -- ==== the whole text

@@ -46,14 +46,11 @@ fn put_text(s: &[u8], at: usize, quoted: bool, out: &mut [u8], to: usize) -> usi
 {
     let mut i = at;
     let mut m = to;
-    loop {
-        let c = write_columns::coded::code_at(s, i);
-        if c.size == 0 {
-            return m;
-        }
+    while let Some(c) = write_columns::coded::code_at(s, i) {
         m = put_guarded(c.value, quoted, out, m);
         i += c.size;
     }
+    m
 }
 
 // Stores the text at a place, bare or as a quoted string.

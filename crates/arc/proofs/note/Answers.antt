@@ -6,10 +6,10 @@ pub returns-then-is_other : goal.returns-then-is_other
 returns-then-is_other c = search note-other
 
 pub place-requires : goal.place-requires
-place-requires c = read-range _ _ _ _ c.is_other.ensures c.if-is_other.false _ c.read_field.ensures _ _ c.in-Read.is c.requires.1
+place-requires c = read-range _ _ _ _ c.is_other.ensures c.if-is_other.false _ c.read_field.ensures _ c.in-Some.is c.requires.1
 
-pub returns-in-Read : goal.returns-in-Read
-returns-in-Read c = search note-read
+pub returns-in-Some : goal.returns-in-Some
+returns-in-Some c = search note-read
 
-pub returns-in-Unreadable : goal.returns-in-Unreadable
-returns-in-Unreadable c = search note-unread
+pub returns-in-None : goal.returns-in-None
+returns-in-None c = search note-unread

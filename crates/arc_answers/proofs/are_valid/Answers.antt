@@ -1,17 +1,15 @@
-use Rattle.arc_answers.proofs.Verdicts.{all_start, valid-long, valid-more, valid-bad, valid-done}
+-- `arc_answers::are_valid` meets its contract: the length and each byte are those of the definition.
+use Rattle.std.proofs.lemmas.Iterator.{YieldsList-from_slice}
+use Rattle.std.proofs.lemmas.Iterator.Search.{all_from_yields_List}
+use Rattle.std.proofs.Common.{rules, tests, ◌≡◌}
+use Rattle.std.specs.List.{list_all}
+use Rattle.arc_answers.proofs.Verdicts.{verdict, valid-long, valid-all}
 use Rattle.arc_answers.proofs.are_valid.Goals as goal
 
 pub returns-then-v-n : goal.returns-then-v-n
-returns-then-v-n c = search valid-long
+returns-then-v-n c =
+    let e : c.all.result ≡ list_all verdict c.args.v.now = all_from_yields_List verdict _ _ c.all.result c.all.ensures.ran (YieldsList-from_slice c.args.v.now cc) (λ x b q k. search (rules, tests)) in
+    valid-all _ _ c.if-v-n.true _ e
 
-pub loop-i-init : goal.loop-i-init
-loop-i-init c = all_start _ _
-
-pub returns-then-v-i-gt-MOST : goal.returns-then-v-i-gt-MOST
-returns-then-v-i-gt-MOST c = search valid-bad
-
-pub loop-i-preserved : goal.loop-i-preserved
-loop-i-preserved c = search valid-more
-
-pub returns : goal.returns
-returns c = search valid-done
+pub returns-else-v-n : goal.returns-else-v-n
+returns-else-v-n c = valid-long _ _ c.if-v-n.false

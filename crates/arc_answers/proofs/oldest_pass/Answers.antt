@@ -1,21 +1,11 @@
-use native.Mathlib.Omega.{arith}
-use Rattle.arc_answers.proofs.Verdicts.{oldest-start, oldest-found, oldest-less, oldest-none}
+use Rattle.arc_answers.proofs.Verdicts.{oldest-found, oldest-less, oldest-none}
 use Rattle.arc_answers.proofs.oldest_pass.Goals as goal
 
-pub loop-i-init : goal.loop-i-init
-loop-i-init c = oldest-start _
+pub returns-then-last-eq0 : goal.returns-then-last-eq0
+returns-then-last-eq0 c = oldest-found _ _ _ _ c.in-Some.ensures.cases c.loop-last.invariant c.if-last-eq0.true
 
-pub bounds-v-i : goal.bounds-v-i
-bounds-v-i c = omega (arith, c.loop-i.invariant.inside)
-
-pub overflow_add-result : goal.overflow_add-result
-overflow_add-result c = omega (arith, c.loop-i.invariant.inside)
-
-pub returns-then-v-i-eq0 : goal.returns-then-v-i-eq0
-returns-then-v-i-eq0 c = search oldest-found
-
-pub loop-i-preserved : goal.loop-i-preserved
-loop-i-preserved c = oldest-less _ _ c.loop-i.invariant (omega arith) c.if-v-i-eq0.false
+pub loop-last-preserved : goal.loop-last-preserved
+loop-last-preserved c = oldest-less _ _ _ _ c.in-Some.ensures.cases c.loop-last.invariant c.if-last-eq0.false
 
 pub returns : goal.returns
-returns c = search oldest-none
+returns c = oldest-none _ _ c.in_default.ensures.cases c.loop-last.invariant

@@ -1,15 +1,14 @@
-use native.Mathlib.Omega.{arith}
-use Rattle.arc_answers.proofs.Verdicts.{all_start, seals-more, seals-bad, seals-done}
+-- `arc_answers::seals_good` meets its contract: each seal is tested.
+use Rattle.std.proofs.lemmas.Iterator.{YieldsList-from_slice}
+use Rattle.std.proofs.lemmas.Iterator.Search.{all_from_yields_List}
+use Rattle.std.proofs.Common.{rules, tests, ◌≡◌}
+use mathlib.Core.Path.{◌∙◌}
+use Rattle.std.specs.List.{list_all}
+use Rattle.arc_rules.specs.Chain.{seal_good}
+use Rattle.arc_answers.proofs.Verdicts.{all-is}
 use Rattle.arc_answers.proofs.seals_good.Goals as goal
 
-pub loop-i-init : goal.loop-i-init
-loop-i-init c = all_start _ _
-
-pub returns-then-v-i-lt-SEAL : goal.returns-then-v-i-lt-SEAL
-returns-then-v-i-lt-SEAL c = seals-bad _ _ c.loop-i.invariant (omega arith) (omega arith)
-
-pub loop-i-preserved : goal.loop-i-preserved
-loop-i-preserved c = seals-more _ _ c.loop-i.invariant (omega arith) (omega arith)
-
 pub returns : goal.returns
-returns c = search seals-done
+returns c =
+    let e : c.all.result ≡ list_all seal_good c.args.v.now = all_from_yields_List seal_good _ _ c.all.result c.all.ensures.ran (YieldsList-from_slice c.args.v.now cc) (λ x b q k. search (rules, tests)) in
+    e ∙ all-is seal_good c.args.v.now

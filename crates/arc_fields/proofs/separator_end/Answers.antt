@@ -3,7 +3,7 @@ use Rattle.arc_fields.proofs.Instances.{separator-there, separator-other, separa
 use Rattle.arc_fields.proofs.separator_end.Goals as goal
 
 pub returns-then-s-a : goal.returns-then-s-a
-returns-then-s-a c = search separator-there
+returns-then-s-a c = separator-there _ _ _ _ c.space_end-a.ensures c.if-a-s.true c.if-s-a.true
 
 pub returns-else-s-a : goal.returns-else-s-a
 returns-else-s-a c = search separator-other

@@ -6,7 +6,7 @@ pub returns-then-e-at : goal.returns-then-e-at
 returns-then-e-at c = c.next_by_lines.ensures
 
 pub label_end-b-requires : goal.label_end-b-requires
-label_end-b-requires c = c.name_end-n.ensures
+label_end-b-requires c = c.run_end-n.ensures
 
 pub returns-then-b-at : goal.returns-then-b-at
 returns-then-b-at c = whole-3 _ _ _ c.whole_end-e.ensures c.if-e-at.false _ _ c.label_end-b.ensures c.if-b-at.true
@@ -15,4 +15,4 @@ pub returns-then-count-ge-FIELDS : goal.returns-then-count-ge-FIELDS
 returns-then-count-ge-FIELDS c = whole-4 _ _ _ c.whole_end-e.ensures c.if-e-at.false _ _ c.label_end-b.ensures c.if-b-at.false c.if-count-ge-FIELDS.true
 
 pub returns : goal.returns
-returns c = whole-field _ _ _ c.whole_end-e.ensures c.if-e-at.false _ _ c.label_end-b.ensures c.if-b-at.false c.if-count-ge-FIELDS.false _ c.name_end-n.ensures
+returns c = whole-field _ _ _ c.whole_end-e.ensures c.if-e-at.false _ _ c.label_end-b.ensures c.if-b-at.false c.if-count-ge-FIELDS.false _ c.run_end-n.ensures

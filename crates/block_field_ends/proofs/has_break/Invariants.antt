@@ -1,12 +1,9 @@
 -- `block_field_ends::has_break` meets its contract: as long as no byte has hit, a field ends from here on where it ends from the first place on.
-use Prim.Native.Nat.{◌+◌, ◌-◌, ◌≤◌}
+use Prim.Native.Nat.{◌+◌}
 use mathlib.Core.Path.{◌≡◌}
 use mathlib.Core.Bool.{false}
 use Rattle.block_field_ends.specs.Internal.{Onward}
 use Rattle.block_field_ends.proofs.has_break.Given as goal
 
 abbrev pub invariant-loop-j : goal.invariant-loop-j
-invariant-loop-j l = (l.j ≤ l.n) × (l.hit ≡ false → Onward l.s l.at (l.at + l.j))
-
-abbrev pub decreases-loop-j : goal.decreases-loop-j
-decreases-loop-j l = l.n - l.j
+invariant-loop-j l = l.hit ≡ false → Onward l.s l.at (l.at + l.j)

@@ -1,11 +1,10 @@
--- `command_list::put_lines` meets its contract: at each turn the lines that are left, stored from there on, give what all lines give.
-use Prim.Native.Nat.{◌-◌}
-use lib.ListN.{length}
+-- At each turn the lines that are left, stored from there on, give what all lines give.
+use Rattle.std.proofs.Common.{length}
 use Rattle.command_list.proofs.ListLines.{Lines}
 use Rattle.command_list.proofs.put_lines.Given as goal
 
-abbrev pub invariant-loop-i : goal.invariant-loop-i
-invariant-loop-i l = Lines l.k l.s l.initial.out l.to l.out l.n l.i l.count
+abbrev pub invariant-loop-line : goal.invariant-loop-line
+invariant-loop-line l = Lines l.k l.s l.initial.out l.to l.out l.n l.rest l.count
 
-abbrev pub decreases-loop-i : goal.decreases-loop-i
-decreases-loop-i l = length l.s - l.i
+abbrev pub decreases-loop-line : goal.decreases-loop-line
+decreases-loop-line l = length l.rest

@@ -1,10 +1,6 @@
 -- `command_sets::sets` meets its contract: what is not refused tells the sets, and each refusal that there are more of them.
-use Prim.Native.Nat.{◌-◌}
 use Rattle.command_sets.proofs.ByJudging.{From}
 use Rattle.command_sets.proofs.sets.Given as goal
 
 abbrev pub invariant-loop-n : goal.invariant-loop-n
 invariant-loop-n l = From l.block l.zeros l.n
-
-abbrev pub decreases-loop-n : goal.decreases-loop-n
-decreases-loop-n l = 51 - l.n

@@ -2,8 +2,8 @@
 use Rattle.explain_fields.proofs.Fields.{count_none, count-some}
 use Rattle.explain_fields.proofs.put_count.Goals as goal
 
-pub returns-then-is_byte : goal.returns-then-is_byte
-returns-then-is_byte c = search count_none
+pub returns-then-is_same : goal.returns-then-is_same
+returns-then-is_same c = search count_none
 
 pub returns : goal.returns
 returns c = search count-some

@@ -1,11 +1,10 @@
--- `explain_texts::is_word` meets its contract: as long as each byte is of a word, those behind it decide.
-use Prim.Native.Nat.{◌-◌}
-use lib.ListN.{length}
+-- As long as each byte is of a word, those behind it decide.
+use Rattle.std.proofs.Common.{◌≤◌, length}
 use Rattle.explain_texts.proofs.Texts.{Fine}
 use Rattle.explain_texts.proofs.is_word.Given as goal
 
-abbrev pub invariant-loop-i : goal.invariant-loop-i
-invariant-loop-i l = Fine l.part l.i
+abbrev pub invariant-loop-b : goal.invariant-loop-b
+invariant-loop-b l = record { fine : Fine l.part l.rest; long : length l.rest ≤ length l.part }
 
-abbrev pub decreases-loop-i : goal.decreases-loop-i
-decreases-loop-i l = length l.part - l.i
+abbrev pub decreases-loop-b : goal.decreases-loop-b
+decreases-loop-b l = length l.rest

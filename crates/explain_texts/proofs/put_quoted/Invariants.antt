@@ -1,12 +1,11 @@
--- `explain_texts::put_quoted` meets its contract: at each turn what is left to store, stored from there on, gives what the whole text gives.
-use Prim.Native.Nat.{◌-◌}
-use lib.ListN.{length, drop}
+-- At each turn the bytes that are left, stored from there on, give what all of them give.
+use Rattle.std.proofs.Common.{length}
 use Rattle.base_sequences.proofs.Clips.{Going}
 use Rattle.explain_rules.specs.Texts.{decoded, quoted_bytes}
 use Rattle.explain_texts.proofs.put_quoted.Given as goal
 
-abbrev pub invariant-loop-i : goal.invariant-loop-i
-invariant-loop-i l = Going l.initial.out l.to (quoted_bytes (decoded l.part)) l.out l.n (quoted_bytes (decoded (drop l.i l.part)))
+abbrev pub invariant-loop-b : goal.invariant-loop-b
+invariant-loop-b l = Going l.initial.out l.to (quoted_bytes (decoded l.part)) l.out l.n (quoted_bytes (decoded l.rest))
 
-abbrev pub decreases-loop-i : goal.decreases-loop-i
-decreases-loop-i l = length l.part - l.i
+abbrev pub decreases-loop-b : goal.decreases-loop-b
+decreases-loop-b l = length l.rest

@@ -17,7 +17,7 @@ pub loop-f-preserved-then-is_at : goal.loop-f-preserved-then-is_at
 loop-f-preserved-then-is_at c = search (past-comment, blank-no-open)
 
 pub returns-then-n-eq0 : goal.returns-then-n-eq0
-returns-then-n-eq0 c = at_item _ _ blank-no-open _ _ _ _ c.loop-f.invariant c.blanks_end-e.ensures _ c.is_at.ensures c.if-is_at.false _ c.item_at-n.ensures c.if-n-eq0.true
+returns-then-n-eq0 c = at_item _ _ blank-no-open _ _ _ _ c.loop-f.invariant c.run_end-e.ensures _ c.is_at.ensures c.if-is_at.false _ c.item_at-n.ensures c.if-n-eq0.true
 
 pub overflow_add-i : goal.overflow_add-i
 overflow_add-i c = search item-turn

@@ -1,15 +1,6 @@
-use Rattle.base_readers.proofs.Loops.{reaches-start, run_on}
-use Rattle.lexis_table.proofs.Entries.{class-off, class-out}
+-- The entries say of each byte what the class's rule says.
+use Rattle.lexis_table.proofs.Entries.{class-run}
 use Rattle.lexis_table.proofs.run_end.Goals as goal
 
-pub loop-i-init : goal.loop-i-init
-loop-i-init c = reaches-start
-
-pub loop-i-preserved : goal.loop-i-preserved
-loop-i-preserved c = search run_on
-
-pub returns-else-is_of : goal.returns-else-is_of
-returns-else-is_of c = search class-off
-
 pub returns : goal.returns
-returns c = search class-out
+returns c = class-run _ _ _ _ _ c.digit.ensures c.run_end.ensures

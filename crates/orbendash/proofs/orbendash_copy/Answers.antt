@@ -9,6 +9,6 @@ pub returns : goal.returns
 returns c =
     let x = c.args in
     record {
-      value = copy-faced _ _ (copy x.s.now x.list.now x.marks.now (length x.out.now)) c.copy.ensures.value c.copy_face.ensures;
+      value = copy-faced _ _ (copy x.s.now x.list.now x.marks.now (length x.out.now)) c.copy.ensures.value c.into.ensures;
       out_after = search rules;
     }

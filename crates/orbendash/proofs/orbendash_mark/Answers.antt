@@ -9,6 +9,6 @@ pub returns : goal.returns
 returns c =
     let x = c.args in
     record {
-      value = mark-faced _ _ (mark x.s.now x.list.now (length x.out.now)) c.mark.ensures.value c.mark_face.ensures;
+      value = mark-faced _ _ (mark x.s.now x.list.now (length x.out.now)) c.mark.ensures.value c.into.ensures;
       out_after = search rules;
     }

@@ -4,4 +4,4 @@ use Rattle.host_structs.specs.Faces.{next_face}
 use Rattle.orbendash.proofs.orbendash_next_field.Goals as goal
 
 pub returns : goal.returns
-returns c = c.next_face.ensures ∙ ap next_face c.field_from.ensures
+returns c = c.into.ensures ∙ ap next_face c.field_from.ensures

@@ -1,6 +1,5 @@
 use native.Mathlib.Omega.{arith}
 use mathlib.Core.Path.{refl, sym, ◌∙◌}
-use lib.Seq.{length-take-le}
 use Rattle.base_sequences.proofs.Splices.{put-long}
 use Rattle.ownlist.proofs.Owners.{ask-start, ask-all, ask-ours, ask-unreadable, ask-more, last-inside}
 use Rattle.ownlist.proofs.whose_spelled.Goals as goal
@@ -8,41 +7,8 @@ use Rattle.ownlist.proofs.whose_spelled.Goals as goal
 pub loop-ends-init : goal.loop-ends-init
 loop-ends-init c = ask-start _ _
 
-pub slice_bounds-line_ends-count : goal.slice_bounds-line_ends-count
-slice_bounds-line_ends-count c = omega (arith, c.loop-ends.invariant.inside)
-
-pub slice_bounds-line_ends-start : goal.slice_bounds-line_ends-start
-slice_bounds-line_ends-start c = omega (arith, c.loop-ends.invariant.inside)
-
-pub slice_bounds-line_ends-end : goal.slice_bounds-line_ends-end
-slice_bounds-line_ends-end c = omega (arith, c.loop-ends.invariant.inside)
-
-pub slice_bounds-whose_among-count : goal.slice_bounds-whose_among-count
-slice_bounds-whose_among-count c = omega (arith, c.loop-ends.invariant.inside)
-
-pub slice_bounds-whose_among-start : goal.slice_bounds-whose_among-start
-slice_bounds-whose_among-start c = omega (arith, c.loop-ends.invariant.inside)
-
-pub slice_bounds-whose_among-end : goal.slice_bounds-whose_among-end
-slice_bounds-whose_among-end c = omega (arith, c.loop-ends.invariant.inside)
-
-pub slice_bounds-ends-end : goal.slice_bounds-ends-end
-slice_bounds-ends-end c = omega (arith, put-long c.line_ends-n.ensures)
-
-pub slice_bounds-whose_among-end-then-n-le-ENTRIES : goal.slice_bounds-whose_among-end-then-n-le-ENTRIES
-slice_bounds-whose_among-end-then-n-le-ENTRIES c = sym (length-take-le _ _ (omega (arith, put-long c.line_ends-n.ensures)))
-
 pub returns-then-n-le-ENTRIES : goal.returns-then-n-le-ENTRIES
 returns-then-n-le-ENTRIES c = ask-all _ _ _ c.loop-ends.invariant _ _ _ c.line_ends-n.ensures (omega arith) _ c.whose_among.ensures
-
-pub slice_bounds-whose_among-count-in-loop-ends : goal.slice_bounds-whose_among-count-in-loop-ends
-slice_bounds-whose_among-count-in-loop-ends c = omega (arith, c.loop-ends.invariant.inside)
-
-pub slice_bounds-whose_among-start-in-loop-ends : goal.slice_bounds-whose_among-start-in-loop-ends
-slice_bounds-whose_among-start-in-loop-ends c = omega (arith, c.loop-ends.invariant.inside)
-
-pub slice_bounds-whose_among-end-in-loop-ends : goal.slice_bounds-whose_among-end-in-loop-ends
-slice_bounds-whose_among-end-in-loop-ends c = omega (arith, c.loop-ends.invariant.inside)
 
 pub returns-in-Ours : goal.returns-in-Ours
 returns-in-Ours c = ask-ours _ _ _ c.loop-ends.invariant _ _ _ c.line_ends-n.ensures 63 refl (omega arith) (sym c.in-Ours.is ∙ c.whose_among-in-loop-ends.ensures)

@@ -1,19 +1,20 @@
 use borrow.Author.Rules.{rules}
+use mathlib.Core.Path.{refl, sym}
 use Rattle.base_readers.proofs.Loops.{reaches-start}
 use Rattle.ownlist_entry.proofs.Sequences.{text-end, text-fits, text-less, text-more}
 use Rattle.ownlist_entry.proofs.text_from.Goals as goal
 
-pub loop-at-init : goal.loop-at-init
-loop-at-init c = reaches-start
+pub loop-n-init : goal.loop-n-init
+loop-n-init c = reaches-start
 
-pub returns-then-n-eq0 : goal.returns-then-n-eq0
-returns-then-n-eq0 c = text-end c.args.s.now _ _ _ _ c.loop-at.invariant c.run_end-e.ensures c.sequence_at-n.ensures c.if-n-eq0.true
+pub returns-in_default : goal.returns-in_default
+returns-in_default c = text-end c.args.s.now _ _ _ 0 c.loop-n.invariant c.run_end-e.ensures (sym c.in_default.ensures) refl
 
 pub overflow_add-i : goal.overflow_add-i
-overflow_add-i c = text-fits c.args.s.now _ _ _ _ c.loop-at.invariant c.run_end-e.ensures c.sequence_at-n.ensures c.if-n-eq0.false (search rules)
+overflow_add-i c = text-fits c.args.s.now _ _ _ _ c.loop-n.invariant c.run_end-e.ensures c.in-Some.ensures.0 c.in-Some.ensures.1 (search rules)
 
-pub loop-at-smaller : goal.loop-at-smaller
-loop-at-smaller c = text-less c.args.s.now _ _ _ _ c.loop-at.invariant c.run_end-e.ensures c.sequence_at-n.ensures c.if-n-eq0.false
+pub loop-n-smaller : goal.loop-n-smaller
+loop-n-smaller c = text-less c.args.s.now _ _ _ _ c.loop-n.invariant c.run_end-e.ensures c.in-Some.ensures.0 c.in-Some.ensures.1
 
-pub loop-at-preserved : goal.loop-at-preserved
-loop-at-preserved c = text-more c.args.s.now _ _ _ _ c.loop-at.invariant c.run_end-e.ensures c.sequence_at-n.ensures
+pub loop-n-preserved : goal.loop-n-preserved
+loop-n-preserved c = text-more c.args.s.now _ _ _ _ c.loop-n.invariant c.run_end-e.ensures c.in-Some.ensures.0

@@ -5,8 +5,8 @@ use Rattle.base_readers.specs.Places.{Reaches}
 use Rattle.ownlist_rules.specs.OwnList.{entry_text}
 use Rattle.ownlist_entry.proofs.text_from.Given as goal
 
-abbrev pub invariant-loop-at : goal.invariant-loop-at
-invariant-loop-at l = Reaches entry_text l.s l.at l.i
+abbrev pub invariant-loop-n : goal.invariant-loop-n
+invariant-loop-n l = Reaches entry_text l.s l.at l.i
 
-abbrev pub decreases-loop-at : goal.decreases-loop-at
-decreases-loop-at l = length l.s - l.i
+abbrev pub decreases-loop-n : goal.decreases-loop-n
+decreases-loop-n l = length l.s - l.i

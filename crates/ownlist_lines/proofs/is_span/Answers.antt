@@ -1,5 +1,5 @@
 -- `ownlist_lines::is_span` meets its contract: bytes of another length are not alike, and where there are none the text has none.
-use Rattle.ownlist_lines.proofs.Lines.{span-other, span-empty}
+use Rattle.ownlist_lines.proofs.Seeking.{span-other, span-empty}
 use Rattle.ownlist_lines.proofs.is_span.Goals as goal
 
 pub returns-then-rest-text : goal.returns-then-rest-text

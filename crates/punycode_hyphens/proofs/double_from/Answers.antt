@@ -8,11 +8,11 @@ loop-at-init c = passed_start _ _
 pub returns-then-rest-lt2 : goal.returns-then-rest-lt2
 returns-then-rest-lt2 c = passed-end c.args.s.now c.args.at c.loop-at.i c.loop-at.invariant (omega arith)
 
-pub returns-then-is_hyphen-2 : goal.returns-then-is_hyphen-2
-returns-then-is_hyphen-2 c = passed-both c.args.s.now c.args.at c.loop-at.i c.loop-at.invariant (omega arith) _ _ c.is_hyphen.ensures c.if-is_hyphen.true c.is_hyphen-then-is_hyphen.ensures c.if-is_hyphen-2.true
-
-pub loop-at-preserved-then-is_hyphen : goal.loop-at-preserved-then-is_hyphen
-loop-at-preserved-then-is_hyphen c = passed-one c.args.s.now c.args.at c.loop-at.i c.loop-at.invariant (omega arith) _ c.is_hyphen-then-is_hyphen.ensures c.if-is_hyphen-2.false
+pub loop-at-preserved-then-s-i-ne45 : goal.loop-at-preserved-then-s-i-ne45
+loop-at-preserved-then-s-i-ne45 c = passed-two c.args.s.now c.args.at c.loop-at.i c.loop-at.invariant (omega arith) c.if-s-i-ne45.true
 
 pub loop-at-preserved : goal.loop-at-preserved
-loop-at-preserved c = passed-two c.args.s.now c.args.at c.loop-at.i c.loop-at.invariant (omega arith) _ c.is_hyphen.ensures c.if-is_hyphen.false
+loop-at-preserved c = passed-one c.args.s.now c.args.at c.loop-at.i c.loop-at.invariant (omega arith) c.if-s-i-ne45-2.true
+
+pub returns-else-s-i-ne45-2 : goal.returns-else-s-i-ne45-2
+returns-else-s-i-ne45-2 c = passed-both c.args.s.now c.args.at c.loop-at.i c.loop-at.invariant (omega arith) c.if-s-i-ne45.false c.if-s-i-ne45-2.false

@@ -1,5 +1,5 @@
 -- `report_escape::has_stop` meets its contract: as long as no byte has hit, the run ends where it ends from the first place on.
-use Prim.Native.Nat.{◌+◌, ◌-◌, ◌≤◌}
+use Prim.Native.Nat.{◌+◌}
 use mathlib.Core.Path.{◌≡◌}
 use mathlib.Core.Bool.{false}
 use Rattle.base_readers.specs.Readers.{run}
@@ -8,7 +8,4 @@ use Rattle.report_escape.specs.Internal.{verbatim}
 use Rattle.report_escape.proofs.has_stop.Given as goal
 
 abbrev pub invariant-loop-j : goal.invariant-loop-j
-invariant-loop-j l = (l.j ≤ l.n) × (l.hit ≡ false → Reaches (run verbatim) l.s l.at (l.at + l.j))
-
-abbrev pub decreases-loop-j : goal.decreases-loop-j
-decreases-loop-j l = l.n - l.j
+invariant-loop-j l = l.hit ≡ false → Reaches (run verbatim) l.s l.at (l.at + l.j)

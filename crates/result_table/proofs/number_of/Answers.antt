@@ -1,4 +1,4 @@
-use mathlib.Core.Path.{sym}
+use Rattle.std.proofs.Common.{◌≡◌, length, sym, arith}
 use lib.Seq.{length-take-le}
 use Rattle.result_table.proofs.Numbered.{fits-at, passed_none, passed-all, passed-hit, passed-more, passed-other}
 use Rattle.result_table.proofs.number_of.Goals as goal
@@ -12,8 +12,8 @@ bounds-lengths-i c = (fits-at _ _ _ c.requires c.loop-i-test.true).0
 pub loop-i-preserved-then-lengths-i : goal.loop-i-preserved-then-lengths-i
 loop-i-preserved-then-lengths-i c = passed-other _ _ _ _ c.loop-i.invariant c.requires c.loop-i-test.true c.if-lengths-i.true
 
-pub bounds-lengths-i-else-lengths-i : goal.bounds-lengths-i-else-lengths-i
-bounds-lengths-i-else-lengths-i c = (fits-at _ _ _ c.requires c.loop-i-test.true).0
+pub bounds-lengths-i-in-loop-i : goal.bounds-lengths-i-in-loop-i
+bounds-lengths-i-in-loop-i c = (fits-at _ _ _ c.requires c.loop-i-test.true).0
 
 pub slice_bounds-row-end : goal.slice_bounds-row-end
 slice_bounds-row-end c = (fits-at _ _ _ c.requires c.loop-i-test.true).1
@@ -28,4 +28,6 @@ pub loop-i-preserved : goal.loop-i-preserved
 loop-i-preserved c = passed-more _ _ _ _ c.loop-i.invariant c.requires c.loop-i-test.true _ c.same_word.ensures c.if-same_word.false
 
 pub returns : goal.returns
-returns c = search passed-all
+returns c =
+    let e : length c.args.rows.now ≡ c.loop-i.i = omega arith in
+    rw e (passed-all _ _ _ _ c.loop-i.invariant c.loop-i-test.false)

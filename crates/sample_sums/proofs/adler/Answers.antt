@@ -1,13 +1,10 @@
-use native.Mathlib.Omega.{arith}
-use mathlib.Core.Path.{refl}
+-- One turn and the end, by the definition's one step.
+use Rattle.std.proofs.Common.{rules}
 use Rattle.sample_sums.proofs.Sums.{sums-more, sums-end}
 use Rattle.sample_sums.proofs.adler.Goals as goal
 
-pub loop-i-init : goal.loop-i-init
-loop-i-init c = (omega arith, omega arith, omega arith, refl)
-
-pub loop-i-preserved : goal.loop-i-preserved
-loop-i-preserved c = (omega arith, omega arith, omega arith, search sums-more)
+pub loop-b-preserved : goal.loop-b-preserved
+loop-b-preserved c = record { low = search rules; high = search rules; sum = search sums-more }
 
 pub returns : goal.returns
-returns c = search sums-end
+returns c = search (rules, sums-end)

@@ -2,12 +2,12 @@
 use Prim.Native.Nat.{◌-◌}
 use lib.ListN.{length}
 use Rattle.ownlist_rules.specs.Spelled.{among_spelled}
-use Rattle.ownlist_rules.specs.Ends.{cut_at}
+use Rattle.ownlist_lines.specs.Lines.{lines_in}
 use Rattle.strip_fields.proofs.Sifting.{Sifting}
 use Rattle.strip_fields.proofs.sift.Given as goal
 
 abbrev pub invariant-loop-start : goal.invariant-loop-start
-invariant-loop-start l = Sifting l.s (among_spelled (cut_at l.own 0 l.ends)) l.initial.marks l.initial.stops l.marks l.stops l.at l.count l.removed l.fields
+invariant-loop-start l = Sifting l.s (among_spelled (lines_in l.lines)) l.initial.marks l.initial.stops l.marks l.stops l.at l.count l.removed l.fields
 
 abbrev pub decreases-loop-start : goal.decreases-loop-start
 decreases-loop-start l = length l.s - l.at

@@ -5,8 +5,8 @@ use lib.ListN.{length}
 use Rattle.tag_list.proofs.Linking.{Linking}
 use Rattle.tag_list.proofs.collect_linked.Given as goal
 
-abbrev pub invariant-loop-start : goal.invariant-loop-start
-invariant-loop-start l = Linking l.s l.at l.initial.table l.initial.next l.initial.heads l.table l.next l.heads l.i l.count l.cv
+abbrev pub invariant-loop-tag : goal.invariant-loop-tag
+invariant-loop-tag l = Linking l.s l.at l.initial.table l.initial.next l.initial.heads l.table l.next l.heads l.i l.count l.cv
 
-abbrev pub decreases-loop-start : goal.decreases-loop-start
-decreases-loop-start l = length l.s - l.i
+abbrev pub decreases-loop-tag : goal.decreases-loop-tag
+decreases-loop-tag l = length l.s - l.i

@@ -2,8 +2,8 @@
 use Rattle.tag_list.proofs.Answers.{attempt-read, attempt-unreadable}
 use Rattle.tag_list.proofs.list_within.Goals as goal
 
-pub returns-in-Read : goal.returns-in-Read
-returns-in-Read c = search attempt-read
+pub returns-in-Ok : goal.returns-in-Ok
+returns-in-Ok c = search attempt-read
 
-pub returns-in-Unreadable : goal.returns-in-Unreadable
-returns-in-Unreadable c = search attempt-unreadable
+pub returns-in-Err-Unreadable : goal.returns-in-Err-Unreadable
+returns-in-Err-Unreadable c = search attempt-unreadable

@@ -5,8 +5,8 @@ use lib.ListN.{length}
 use Rattle.tag_list_ordered.proofs.Collecting.{Collecting}
 use Rattle.tag_list_ordered.proofs.collect.Given as goal
 
-abbrev pub invariant-loop-start : goal.invariant-loop-start
-invariant-loop-start l = Collecting l.s l.at l.initial.table l.table l.i l.count l.cv
+abbrev pub invariant-loop-tag : goal.invariant-loop-tag
+invariant-loop-tag l = Collecting l.s l.at l.initial.table l.table l.i l.count l.cv
 
-abbrev pub decreases-loop-start : goal.decreases-loop-start
-decreases-loop-start l = length l.s - l.i
+abbrev pub decreases-loop-tag : goal.decreases-loop-tag
+decreases-loop-tag l = length l.s - l.i

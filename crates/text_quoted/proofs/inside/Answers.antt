@@ -1,10 +1,9 @@
--- `text_quoted::inside` meets its contract: one place further the list has one element less, and past the end there is none to drop.
-use lib.ListN.{drop_of_length-le}
+-- `text_quoted::inside` meets its contract: a place that would be past the largest number is past the end.
 use lib.Seq.{drop-drop}
+use mathlib.Core.Path.{◌∙◌}
+use Rattle.std.proofs.Common.{rules}
+use Rattle.text_quoted.proofs.Copied.{drop-past}
 use Rattle.text_quoted.proofs.inside.Goals as goal
 
-pub returns-then-at-s : goal.returns-then-at-s
-returns-then-at-s c = rw drop-drop
-
 pub returns : goal.returns
-returns c = rw (drop_of_length-le _ c.if-at-s.false)
+returns c = drop-past _ (search rules) _ _ c.saturating_add.ensures ∙ rw drop-drop

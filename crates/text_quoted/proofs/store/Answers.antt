@@ -1,11 +1,7 @@
--- `text_quoted::store` meets its contract: where there is no such place the definition's store changes nothing.
-use native.Mathlib.Omega.{arith}
-use mathlib.Core.Path.{sym}
-use lib.Seq.{set_out}
+-- `text_quoted::store` meets its contract: a place that would be past the largest number is past the end.
+use Rattle.std.proofs.Common.{rules}
+use Rattle.text_quoted.proofs.Copied.{stored_at}
 use Rattle.text_quoted.proofs.store.Goals as goal
 
-pub returns-else-n-out : goal.returns-else-n-out
-returns-else-n-out c = sym (set_out _ _ _ (omega arith))
-
-pub returns-else-to-out : goal.returns-else-to-out
-returns-else-to-out c = sym (set_out _ _ _ (omega arith))
+pub returns : goal.returns
+returns c = stored_at _ (search rules) _ _ c.saturating_add.ensures _ _ _ c.put_byte.ensures

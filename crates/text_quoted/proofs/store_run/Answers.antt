@@ -1,10 +1,7 @@
--- `text_quoted::store_run` meets its contract: where there is no such place the definition's store changes nothing.
-use native.Mathlib.Omega.{arith}
-use Rattle.text_quoted.proofs.Copied.{put-out}
+-- `text_quoted::store_run` meets its contract: a place that would be past the largest number is past the end.
+use Rattle.std.proofs.Common.{rules}
+use Rattle.text_quoted.proofs.Copied.{stored_run}
 use Rattle.text_quoted.proofs.store_run.Goals as goal
 
-pub returns-else-n-out : goal.returns-else-n-out
-returns-else-n-out c = put-out _ _ _ (omega arith)
-
-pub returns-else-to-out : goal.returns-else-to-out
-returns-else-to-out c = put-out _ _ _ (omega arith)
+pub returns : goal.returns
+returns c = stored_run _ (search rules) _ _ c.saturating_add.ensures _ _ _ c.put_text.ensures

@@ -1,16 +1,9 @@
 use native.Mathlib.Omega.{arith}
-use Rattle.base_sequences.proofs.Splices.{left-zero}
 use Rattle.text_write.proofs.Texts.{lower-more, lower-done}
 use Rattle.text_write.proofs.put_lower.Goals as goal
 
-pub loop-j-init : goal.loop-j-init
-loop-j-init c = (omega arith, left-zero _ _ _)
-
 pub loop-j-preserved : goal.loop-j-preserved
-loop-j-preserved c = (omega arith, search lower-more)
-
-pub shape_of-out : goal.shape_of-out
-shape_of-out c = c.loop-j.invariant.1.long
+loop-j-preserved c = lower-more _ _ _ _ _ c.min-n.result _ c.loop-j.invariant c.loop-j-test.true (omega arith) c.lower.ensures
 
 pub returns : goal.returns
-returns c = search lower-done
+returns c = lower-done _ _ _ _ _ _ c.loop-j.invariant c.rest.ensures (omega arith)

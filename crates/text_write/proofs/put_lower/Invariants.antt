@@ -1,6 +1,6 @@
 -- `text_write::put_lower` meets its contract: at each turn what is left to store, stored from there on, gives what the whole text gives; the
 -- loop ends where the text or the room does.
-use Prim.Native.Nat.{◌+◌, ◌-◌, ◌≤◌}
+use Prim.Native.Nat.{◌+◌}
 use mathlib.Core.List.{map}
 use lib.ListN.{drop}
 use Rattle.base_sequences.proofs.Splices.{Left}
@@ -8,7 +8,4 @@ use Rattle.lexis_rules.specs.Bytes.{lower}
 use Rattle.text_write.proofs.put_lower.Given as goal
 
 abbrev pub invariant-loop-j : goal.invariant-loop-j
-invariant-loop-j l = (l.j ≤ l.n) × (Left l.initial.out l.to (map lower l.part) l.out (l.to + l.j) (drop l.j (map lower l.part)))
-
-abbrev pub decreases-loop-j : goal.decreases-loop-j
-decreases-loop-j l = l.n - l.j
+invariant-loop-j l = Left l.initial.out l.to (map lower l.part) l.out (l.to + l.j) (drop l.j (map lower l.part))

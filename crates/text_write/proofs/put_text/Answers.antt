@@ -1,16 +1,10 @@
-use native.Mathlib.Omega.{arith}
-use Rattle.base_sequences.proofs.Splices.{left-zero}
-use Rattle.text_write.proofs.Texts.{stored_more, stored-done}
+-- `text_write::put_text` meets its contract: as many bytes as there is room for are copied at once, and where there is room for none nothing is.
+use Rattle.std.proofs.Common.{rules}
+use Rattle.text_write.proofs.Texts.{copied-put, copied-none}
 use Rattle.text_write.proofs.put_text.Goals as goal
 
-pub loop-j-init : goal.loop-j-init
-loop-j-init c = (omega arith, left-zero _ _ _)
+pub returns-then-n-gt0 : goal.returns-then-n-gt0
+returns-then-n-gt0 c = copied-put _ _ _ _ _ _ c.rest.ensures c.min-n.ensures c.if-n-gt0.true (search rules)
 
-pub loop-j-preserved : goal.loop-j-preserved
-loop-j-preserved c = (omega arith, search stored_more)
-
-pub shape_of-out : goal.shape_of-out
-shape_of-out c = c.loop-j.invariant.1.long
-
-pub returns : goal.returns
-returns c = search stored-done
+pub returns-else-n-gt0 : goal.returns-else-n-gt0
+returns-else-n-gt0 c = search copied-none

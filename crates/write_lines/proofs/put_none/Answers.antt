@@ -2,11 +2,11 @@
 use Rattle.write_lines.proofs.Lines.{none-unlike, none-fits, none-put}
 use Rattle.write_lines.proofs.put_none.Goals as goal
 
+pub returns-then-not-is_literal : goal.returns-then-not-is_literal
+returns-then-not-is_literal c = search none-unlike
+
 pub overflow_add-result : goal.overflow_add-result
 overflow_add-result c = search none-fits
 
-pub returns-then-is_literal : goal.returns-then-is_literal
-returns-then-is_literal c = search none-put
-
 pub returns : goal.returns
-returns c = search none-unlike
+returns c = search none-put

@@ -1,33 +1,34 @@
 -- `write_lines::put_property` meets its contract: each way out has its law in `Properties`.
-use Rattle.write_lines.proofs.Properties.{property-unlike, property-fits, property-first, property-inside, property-next, property-second, property-inside-second, property-last, property-unshown, property-shown}
+use native.Mathlib.Omega.{arith}
+use mathlib.Core.Path.{refl}
+use Rattle.std.proofs.Common.{rules, ◌≡◌, ◌+◌, None}
+use Rattle.write_lines.proofs.Properties as laws
 use Rattle.write_lines.proofs.put_property.Goals as goal
 
-pub overflow_add-a : goal.overflow_add-a
-overflow_add-a c = search property-fits
+pub returns-then-not-is_literal : goal.returns-then-not-is_literal
+returns-then-not-is_literal c = search laws.property-unlike
 
-pub returns-then-e-a : goal.returns-then-e-a
-returns-then-e-a c = search property-first
+pub overflow_add-a : goal.overflow_add-a
+overflow_add-a c = laws.property-fits c.args.s.now c.args.at _ c.is_literal.ensures c.if-not-is_literal.false (search rules)
+
+pub returns-in_err-e : goal.returns-in_err-e
+returns-in_err-e c =
+    let q : c.from_residual.result ≡ None = search rules in
+    rw q (laws.property-first c.args.s.now c.args.at _ c.is_literal.ensures c.if-not-is_literal.false (c.args.at + 2) (omega (arith, c.in_err-e.ensures)) _ _ refl)
 
 pub overflow_add-b : goal.overflow_add-b
-overflow_add-b c = search property-next
+overflow_add-b c = laws.property-next c.args.s.now c.args.at _ c.is_literal.ensures c.if-not-is_literal.false c.in_ok-e.e c.in_ok-e.ensures.0 (λ z. omega (arith, c.in_ok-e.ensures.1, z)) (search rules)
 
-pub returns-then-f-b : goal.returns-then-f-b
-returns-then-f-b c = search property-second
-
-pub overflow_add-c : goal.overflow_add-c
-overflow_add-c c = search property-last
+pub returns-in_err-f : goal.returns-in_err-f
+returns-in_err-f c =
+    let q : c.from_residual-in_err-f.result ≡ None = search rules in
+    rw q (laws.property-second c.args.s.now c.args.at _ c.is_literal.ensures c.if-not-is_literal.false c.in_ok-e.e c.in_ok-e.ensures.0 (λ z. omega (arith, c.in_ok-e.ensures.1, z)) (c.in_ok-e.e + 1) (omega (arith, c.in_err-f.ensures)) _ _ refl)
 
 pub slice_bounds-put_valued-end : goal.slice_bounds-put_valued-end
-slice_bounds-put_valued-end c = search property-inside
+slice_bounds-put_valued-end c = laws.property-inside c.args.s.now c.args.at _ c.is_literal.ensures c.if-not-is_literal.false c.in_ok-e.e c.in_ok-e.ensures.0 (λ z. omega (arith, c.in_ok-e.ensures.1, z))
 
-pub slice_bounds-put_valued-end-then-is_literal : goal.slice_bounds-put_valued-end-then-is_literal
-slice_bounds-put_valued-end-then-is_literal c = search property-inside-second
-
-pub returns-then-r-c : goal.returns-then-r-c
-returns-then-r-c c = property-unshown _ _ _ c.is_literal.ensures c.if-is_literal.true _ c.column_end-e.ensures c.if-e-a.false _ c.column_end-f.ensures c.if-f-b.false _ _ _ _ c.put_valued-r.ensures c.if-r-c.true
-
-pub returns-then-is_literal : goal.returns-then-is_literal
-returns-then-is_literal c = property-shown _ _ _ c.is_literal.ensures c.if-is_literal.true _ c.column_end-e.ensures c.if-e-a.false _ c.column_end-f.ensures c.if-f-b.false _ _ _ _ c.put_valued-r.ensures c.if-r-c.false
+pub slice_bounds-put_valued-end-2 : goal.slice_bounds-put_valued-end-2
+slice_bounds-put_valued-end-2 c = laws.property-inside-second c.args.s.now c.args.at _ c.is_literal.ensures c.if-not-is_literal.false c.in_ok-e.e c.in_ok-e.ensures.0 (λ z. omega (arith, c.in_ok-e.ensures.1, z)) c.in_ok-f.f c.in_ok-f.ensures.0 (λ z. omega (arith, c.in_ok-f.ensures.1, z))
 
 pub returns : goal.returns
-returns c = search property-unlike
+returns c = laws.property-shown c.args.s.now c.args.at _ c.is_literal.ensures c.if-not-is_literal.false c.in_ok-e.e c.in_ok-e.ensures.0 (λ z. omega (arith, c.in_ok-e.ensures.1, z)) c.in_ok-f.f c.in_ok-f.ensures.0 (λ z. omega (arith, c.in_ok-f.ensures.1, z)) _ _ _ _ c.put_valued.ensures

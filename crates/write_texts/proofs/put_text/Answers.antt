@@ -1,21 +1,19 @@
-use Rattle.write_texts.proofs.Texts.{texting-start, texting-long, texting-done, texting-more}
+use borrow.Author.Rules.{rules}
+use Rattle.write_texts.proofs.Texts.{texting-start, texting-done, texting-more}
 use Rattle.write_columns.proofs.Codes.{text-turn, text-less}
 use Rattle.write_texts.proofs.put_text.Goals as goal
 
 pub loop-c-init : goal.loop-c-init
 loop-c-init c = search texting-start
 
-pub shape_of-out-then-c-eq0 : goal.shape_of-out-then-c-eq0
-shape_of-out-then-c-eq0 c = search texting-long
-
-pub returns-then-c-eq0 : goal.returns-then-c-eq0
-returns-then-c-eq0 c = search texting-done
-
 pub overflow_add-i : goal.overflow_add-i
-overflow_add-i c = search text-turn
+overflow_add-i c = text-turn _ _ _ c.in-Some.ensures (search rules)
 
 pub loop-c-smaller : goal.loop-c-smaller
-loop-c-smaller c = search text-less
+loop-c-smaller c = text-less _ _ _ c.in-Some.ensures
 
 pub loop-c-preserved : goal.loop-c-preserved
-loop-c-preserved c = search texting-more
+loop-c-preserved c = texting-more _ _ _ _ _ _ _ _ c.loop-c.invariant _ c.in-Some.ensures (search rules) _ _ c.put_guarded-m.ensures
+
+pub returns : goal.returns
+returns c = texting-done _ _ _ _ _ _ _ _ c.loop-c.invariant c.in_default.ensures

@@ -8,13 +8,13 @@ pub returns-then-too_long : goal.returns-then-too_long
 returns-then-too_long c = search-long _ _ _ c.too_long.ensures c.if-too_long.true
 
 pub loop-start-init : goal.loop-start-init
-loop-start-init c = rw c.fresh-fresh.ensures (search-start _ _ _ c.too_long.ensures c.if-too_long.false)
+loop-start-init c = rw c.fresh-walk.ensures (search-start _ _ _ c.too_long.ensures c.if-too_long.false)
 
 pub returns-then-from-start : goal.returns-then-from-start
 returns-then-from-start c = search-found _ _ _ _ c.loop-start.invariant _ _ _ _ (sym c.in-Field.is ∙ c.next_field.ensures) (omega (arith, c.if-from-start.true))
 
-pub overflow_add-count : goal.overflow_add-count
-overflow_add-count c = omega (arith, (step_field _ _ _ _ _ _ _ (sym c.in-Field.is ∙ c.next_field.ensures)), c.loop-start.invariant)
+pub overflow_add-walk : goal.overflow_add-walk
+overflow_add-walk c = omega (arith, (step_field _ _ _ _ _ _ _ (sym c.in-Field.is ∙ c.next_field.ensures)), c.loop-start.invariant)
 
 pub loop-start-smaller : goal.loop-start-smaller
 loop-start-smaller c = omega (arith, (step_field _ _ _ _ _ _ _ (sym c.in-Field.is ∙ c.next_field.ensures)), c.loop-start.invariant)

@@ -5,7 +5,7 @@ use Rattle.block_walk.proofs.Searching.{Searching}
 use Rattle.block_walk.proofs.steps.step_from.Given as goal
 
 abbrev pub invariant-loop-start : goal.invariant-loop-start
-invariant-loop-start l = Searching l.block l.from l.at l.count
+invariant-loop-start l = Searching l.block l.from l.walk.at l.walk.count
 
 abbrev pub decreases-loop-start : goal.decreases-loop-start
-decreases-loop-start l = length l.block - l.at
+decreases-loop-start l = length l.block - l.walk.at

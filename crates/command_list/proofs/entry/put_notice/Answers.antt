@@ -1,9 +1,10 @@
--- `command_list::entry::put_notice` meets its contract: nothing, or the parts of the line one after another.
+-- Nothing, or the parts of the line one after another.
+use Rattle.std.proofs.Common.{rules}
 use Rattle.command_list.proofs.EntryLines.{notice-none-put, notice-put}
 use Rattle.command_list.proofs.entry.put_notice.Goals as goal
 
-pub returns-then-is_silent : goal.returns-then-is_silent
-returns-then-is_silent c = search notice-none-put
+pub returns-in_default : goal.returns-in_default
+returns-in_default c = search (rules, notice-none-put)
 
 pub returns : goal.returns
-returns c = search notice-put
+returns c = search (rules, notice-put)

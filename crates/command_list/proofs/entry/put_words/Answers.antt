@@ -1,5 +1,5 @@
 -- `command_list::entry::put_words` meets its contract: each arm writes the words of its notice.
-use Rattle.command_list.proofs.EntryLines.{mark-words, hash-words, unbare-words, star-words, no_words}
+use Rattle.command_list.proofs.EntryLines.{mark-words, hash-words, unbare-words, star-words}
 use Rattle.command_list.proofs.entry.put_words.Goals as goal
 
 pub returns-in-Mark : goal.returns-in-Mark
@@ -13,6 +13,3 @@ returns-in-Unbare c = search unbare-words
 
 pub returns-in-Star : goal.returns-in-Star
 returns-in-Star c = search star-words
-
-pub returns-in-Unnoticed : goal.returns-in-Unnoticed
-returns-in-Unnoticed c = search no_words

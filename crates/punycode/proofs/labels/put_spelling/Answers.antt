@@ -7,13 +7,13 @@ pub loop-n-init : goal.loop-n-init
 loop-n-init c = written_start _ _
 
 pub slice_bounds-put_label-count : goal.slice_bounds-put_label-count
-slice_bounds-put_label-count c = omega (arith, end_low c.args.t.now _ _ c.label_end-e.ensures c.loop-n.invariant.low)
+slice_bounds-put_label-count c = omega (arith, end_low c.args.t.now _ _ c.run_end-e.ensures c.loop-n.invariant.low)
 
 pub slice_bounds-put_label-start : goal.slice_bounds-put_label-start
-slice_bounds-put_label-start c = omega (arith, end_low c.args.t.now _ _ c.label_end-e.ensures c.loop-n.invariant.low)
+slice_bounds-put_label-start c = omega (arith, end_low c.args.t.now _ _ c.run_end-e.ensures c.loop-n.invariant.low)
 
 pub slice_bounds-put_label-end : goal.slice_bounds-put_label-end
-slice_bounds-put_label-end c = omega (arith, end_low c.args.t.now _ _ c.label_end-e.ensures c.loop-n.invariant.low)
+slice_bounds-put_label-end c = omega (arith, end_low c.args.t.now _ _ c.run_end-e.ensures c.loop-n.invariant.low)
 
 pub put_label-n-requires : goal.put_label-n-requires
 put_label-n-requires c = c.loop-n.invariant.small
@@ -37,10 +37,10 @@ pub overflow_add-n-in-loop-n : goal.overflow_add-n-in-loop-n
 overflow_add-n-in-loop-n c = omega (arith, c.if-n-gt-LONGEST.false)
 
 pub overflow_add-at : goal.overflow_add-at
-overflow_add-at c = omega (arith, end_low c.args.t.now _ _ c.label_end-e.ensures c.loop-n.invariant.low)
+overflow_add-at c = omega (arith, end_low c.args.t.now _ _ c.run_end-e.ensures c.loop-n.invariant.low)
 
 pub loop-n-smaller : goal.loop-n-smaller
-loop-n-smaller c = omega (arith, end_low c.args.t.now _ _ c.label_end-e.ensures c.loop-n.invariant.low)
+loop-n-smaller c = omega (arith, end_low c.args.t.now _ _ c.run_end-e.ensures c.loop-n.invariant.low)
 
 pub loop-n-preserved : goal.loop-n-preserved
 loop-n-preserved c = search written_on

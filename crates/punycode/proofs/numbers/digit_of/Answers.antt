@@ -1,25 +1,34 @@
--- `punycode::numbers::digit_of` meets its contract: each test in turn is a case of the definition.
-use native.Mathlib.Omega.{arith}
-use Rattle.punycode_laws.proofs.Digits.{small-letter, small-from, capital, capital-from, figure, figure-from, no_digit}
+-- `punycode::numbers::digit_of` meets its contract: each arm is a case of the definition.
+use Rattle.std.proofs.Common.{arith}
+use Rattle.std.proofs.lemmas.Bool.Decides.{nat_tests}
+use Rattle.base_readers.specs.Texts.{within}
+use Rattle.punycode_rules.specs.Punycode.{digit_of}
 use Rattle.punycode.proofs.numbers.digit_of.Goals as goal
 
-pub overflow_sub-result : goal.overflow_sub-result
-overflow_sub-result c = omega (arith, small-from _ _ c.is_within.ensures c.if-is_within.true)
+pub returns-in-48-to-57 : goal.returns-in-48-to-57
+unfolding digit_of within
+returns-in-48-to-57 c = grind (arith, nat_tests)
 
-pub returns-then-is_within : goal.returns-then-is_within
-returns-then-is_within c = search small-letter
+pub returns-in-65-to-90 : goal.returns-in-65-to-90
+unfolding digit_of within
+returns-in-65-to-90 c = grind (arith, nat_tests)
 
-pub overflow_sub-result-then-is_within-2 : goal.overflow_sub-result-then-is_within-2
-overflow_sub-result-then-is_within-2 c = search capital-from
+pub returns-in-97-to-122 : goal.returns-in-97-to-122
+unfolding digit_of within
+returns-in-97-to-122 c = grind (arith, nat_tests)
 
-pub returns-then-is_within-2 : goal.returns-then-is_within-2
-returns-then-is_within-2 c = search capital
+pub returns-in_default : goal.returns-in_default
+unfolding digit_of within
+returns-in_default c = grind (arith, nat_tests)
 
-pub overflow_sub-result-then-is_within-3 : goal.overflow_sub-result-then-is_within-3
-overflow_sub-result-then-is_within-3 c = search figure-from
+pub returns-in_default-2 : goal.returns-in_default-2
+unfolding digit_of within
+returns-in_default-2 c = grind (arith, nat_tests)
 
-pub returns-then-is_within-3 : goal.returns-then-is_within-3
-returns-then-is_within-3 c = search figure
+pub returns-in_default-3 : goal.returns-in_default-3
+unfolding digit_of within
+returns-in_default-3 c = grind (arith, nat_tests)
 
-pub returns : goal.returns
-returns c = search no_digit
+pub returns-in_default-4 : goal.returns-in_default-4
+unfolding digit_of within
+returns-in_default-4 c = grind (arith, nat_tests)

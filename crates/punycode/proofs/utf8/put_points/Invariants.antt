@@ -1,10 +1,6 @@
 -- `punycode::utf8::put_points` meets its contract: at each turn what is left to write gives what the whole gives.
-use Prim.Native.Nat.{◌-◌}
 use Rattle.punycode.proofs.Writing.{Pointed}
 use Rattle.punycode.proofs.utf8.put_points.Given as goal
 
-abbrev pub invariant-loop-j : goal.invariant-loop-j
-invariant-loop-j l = Pointed l.points l.count l.initial.out l.to l.out l.j l.n
-
-abbrev pub decreases-loop-j : goal.decreases-loop-j
-decreases-loop-j l = l.count - l.j
+abbrev pub invariant-loop-x : goal.invariant-loop-x
+invariant-loop-x l = Pointed l.points l.initial.out l.to l.out l.x-index l.n

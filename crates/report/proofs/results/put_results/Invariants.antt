@@ -4,8 +4,8 @@ use lib.ListN.{length}
 use Rattle.report.proofs.Passes.{Passing}
 use Rattle.report.proofs.results.put_results.Given as goal
 
-abbrev pub invariant-loop-end : goal.invariant-loop-end
-invariant-loop-end l = Passing l.s l.at l.initial.out l.to l.out l.i l.a l.n l.ignored
+abbrev pub invariant-loop-turn : goal.invariant-loop-turn
+invariant-loop-turn l = Passing l.s l.at l.initial.out l.to l.out l.i l.a l.n l.ignored
 
-abbrev pub decreases-loop-end : goal.decreases-loop-end
-decreases-loop-end l = length l.s - l.i
+abbrev pub decreases-loop-turn : goal.decreases-loop-turn
+decreases-loop-turn l = length l.s - l.i

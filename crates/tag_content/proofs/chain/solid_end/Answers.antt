@@ -1,17 +1,11 @@
-use Rattle.tag_content.proofs.ChainValues.{solid-start, solid-last, solid-on, solid-off, solid-out}
+use Rattle.tag_content.proofs.ChainValues.{solid-on, solid-off, solid-out}
 use Rattle.tag_content.proofs.chain.solid_end.Goals as goal
 
-pub loop-e-init : goal.loop-e-init
-loop-e-init c = search solid-start
+pub returns-then-not-is_white : goal.returns-then-not-is_white
+returns-then-not-is_white c = solid-off _ _ _ _ c.in-Some.ensures.cases c.loop-last.invariant _ c.is_white.ensures c.if-not-is_white.true
 
-pub bounds-v-e : goal.bounds-v-e
-bounds-v-e c = search solid-last
-
-pub loop-e-preserved : goal.loop-e-preserved
-loop-e-preserved c = search solid-on
-
-pub returns-else-is_white : goal.returns-else-is_white
-returns-else-is_white c = search solid-off
+pub loop-last-preserved : goal.loop-last-preserved
+loop-last-preserved c = solid-on _ _ _ _ c.in-Some.ensures.cases c.loop-last.invariant _ c.is_white.ensures c.if-not-is_white.false
 
 pub returns : goal.returns
-returns c = search solid-out
+returns c = solid-out _ _ c.in_default.ensures.cases c.loop-last.invariant

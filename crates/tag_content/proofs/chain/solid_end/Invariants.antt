@@ -1,9 +1,10 @@
--- `tag_content::chain::solid_end` meets its contract: what is behind the place of the loop is space.
-use Rattle.tag_content.proofs.ChainValues.{Solid}
+-- `tag_content::chain::solid_end` meets its contract: the part that is left is as solid as the whole.
+use Rattle.std.proofs.Common.{◌≡◌, length}
+use Rattle.tag_rules.specs.Tags.{solid}
 use Rattle.tag_content.proofs.chain.solid_end.Given as goal
 
-abbrev pub invariant-loop-e : goal.invariant-loop-e
-invariant-loop-e l = Solid l.v l.e
+abbrev pub invariant-loop-last : goal.invariant-loop-last
+invariant-loop-last l = solid l.rest ≡ solid l.v
 
-abbrev pub decreases-loop-e : goal.decreases-loop-e
-decreases-loop-e l = l.e
+abbrev pub decreases-loop-last : goal.decreases-loop-last
+decreases-loop-last l = length l.rest

@@ -2,8 +2,5 @@
 use Rattle.tag_list.proofs.Linking.{Seeking}
 use Rattle.tag_list.proofs.linked.seek.Given as goal
 
-abbrev pub invariant-loop-c : goal.invariant-loop-c
-invariant-loop-c l = Seeking l.s l.table l.next l.last l.name l.c
-
-abbrev pub decreases-loop-c : goal.decreases-loop-c
-decreases-loop-c l = l.c
+abbrev pub invariant-loop : goal.invariant-loop
+invariant-loop l = Seeking l.s l.table l.next l.last l.name l.c

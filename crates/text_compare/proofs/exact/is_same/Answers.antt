@@ -1,19 +1,7 @@
-use native.Mathlib.Omega.{arith}
-use mathlib.Core.Path.{refl}
-use Rattle.text_compare.proofs.Sames.{lengths_differ, same_end, same_more, same-off}
+-- `text_compare::exact::is_same` meets its contract: what the library's `==` tells of two slices is what the definition tells.
+use Rattle.text_compare.proofs.Sames.{same-pointwise}
+use mathlib.Core.Path.{◌∙◌}
 use Rattle.text_compare.proofs.exact.is_same.Goals as goal
 
-pub returns-then-a-b : goal.returns-then-a-b
-returns-then-a-b c = search lengths_differ
-
-pub loop-i-init : goal.loop-i-init
-loop-i-init c = (omega arith, omega arith, refl)
-
-pub returns-then-a-i : goal.returns-then-a-i
-returns-then-a-i c = search same-off
-
-pub loop-i-preserved : goal.loop-i-preserved
-loop-i-preserved c = (omega arith, omega arith, search same_more)
-
 pub returns : goal.returns
-returns c = search same_end
+returns c = c.eq.ensures ∙ same-pointwise _ _

@@ -1,14 +1,12 @@
-use Rattle.text_write.proofs.Bars.{passed_none, passed-all, passed-last, passed-more}
+use native.Mathlib.Omega.{arith}
+use Rattle.text_write.proofs.Bars.{passed-all, passed-last, passed-more}
 use Rattle.text_write.proofs.phrases.start.Goals as goal
 
-pub loop-left-init : goal.loop-left-init
-loop-left-init c = search passed_none
-
 pub returns-then-bar-all : goal.returns-then-bar-all
-returns-then-bar-all c = search passed-last
+returns-then-bar-all c = passed-last _ _ _ _ c.loop.invariant (omega arith) _ c.run_end-bar.ensures c.if-bar-all.true
 
-pub loop-left-preserved : goal.loop-left-preserved
-loop-left-preserved c = passed-more _ _ _ _ c.loop-left.invariant c.loop-left-test.true _ c.bar_from-bar.ensures c.if-bar-all.false
+pub loop-preserved : goal.loop-preserved
+loop-preserved c = passed-more _ _ _ _ c.loop.invariant (omega arith) _ c.run_end-bar.ensures c.if-bar-all.false (omega arith)
 
 pub returns : goal.returns
-returns c = search passed-all
+returns c = passed-all _ _ _ _ c.loop.invariant (omega arith)

@@ -1,9 +1,7 @@
--- `text_write::phrases::start` meets its contract: behind each bar one phrase less is to be passed.
+-- `text_write::phrases::start` meets its contract: at each turn a phrase of the whole text is one of what is left of it.
+use Prim.Native.Nat.{◌-◌}
 use Rattle.text_write.proofs.Bars.{Passed}
 use Rattle.text_write.proofs.phrases.start.Given as goal
 
-abbrev pub invariant-loop-left : goal.invariant-loop-left
-invariant-loop-left l = Passed l.n l.all l.at l.left
-
-abbrev pub decreases-loop-left : goal.decreases-loop-left
-decreases-loop-left l = l.left
+abbrev pub invariant-loop : goal.invariant-loop
+invariant-loop l = Passed l.n l.all l.at (l.n - l.counter)

@@ -1,18 +1,19 @@
+use borrow.Author.Rules.{rules}
 use Rattle.write_columns.proofs.Tests.{walking_start, walking-done, walking_on}
 use Rattle.write_columns.proofs.Codes.{text-turn, text-less}
 use Rattle.write_columns.proofs.coded.text_at.Goals as goal
 
-pub loop-t-init : goal.loop-t-init
-loop-t-init c = search walking_start
-
-pub returns-then-c-eq0 : goal.returns-then-c-eq0
-returns-then-c-eq0 c = search walking-done
+pub loop-c-init : goal.loop-c-init
+loop-c-init c = walking_start _ _ _ _ c.code_at.ensures _ c.is_some-bare.ensures
 
 pub overflow_add-i : goal.overflow_add-i
-overflow_add-i c = search text-turn
+overflow_add-i c = text-turn _ _ _ c.in-Some.ensures (search rules)
 
-pub loop-t-smaller : goal.loop-t-smaller
-loop-t-smaller c = search text-less
+pub loop-c-smaller : goal.loop-c-smaller
+loop-c-smaller c = text-less _ _ _ c.in-Some.ensures
 
-pub loop-t-preserved : goal.loop-t-preserved
-loop-t-preserved c = walking_on _ _ _ _ _ _ c.loop-t.invariant _ c.code_at-c.ensures c.if-c-eq0.false _ c.in_test-holds.ensures _ c.in_test-bare.ensures
+pub loop-c-preserved : goal.loop-c-preserved
+loop-c-preserved c = walking_on _ _ _ _ _ _ c.loop-c.invariant _ c.in-Some.ensures _ c.in_test-holds.ensures _ c.in_test-bare.ensures
+
+pub returns : goal.returns
+returns c = walking-done _ _ _ _ _ _ c.loop-c.invariant c.in_default.ensures

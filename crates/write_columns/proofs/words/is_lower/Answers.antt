@@ -1,17 +1,15 @@
-use Rattle.write_columns.proofs.Keywords.{lowering-start, lowering-done, lowering-off, lowering-on, lowering-less}
+-- `write_columns::words::is_lower` meets its contract: each byte is as it is in lower case.
+use Rattle.std.proofs.Common.{rules, tests, ◌≡◌, ℕ, nat_eq}
+use mathlib.Core.Path.{◌∙◌}
+use Rattle.std.proofs.lemmas.Iterator.{YieldsList-from_slice}
+use Rattle.std.proofs.lemmas.Iterator.Search.{all_from_yields_List}
+use Rattle.std.specs.List.{list_all}
+use Rattle.lexis_rules.specs.Bytes.{lower}
+use Rattle.write_columns.proofs.Keywords.{lower-all}
 use Rattle.write_columns.proofs.words.is_lower.Goals as goal
 
-pub loop-j-init : goal.loop-j-init
-loop-j-init c = lowering-start _
-
-pub returns-then-lower-part : goal.returns-then-lower-part
-returns-then-lower-part c = search lowering-off
-
-pub loop-j-smaller : goal.loop-j-smaller
-loop-j-smaller c = search lowering-less
-
-pub loop-j-preserved : goal.loop-j-preserved
-loop-j-preserved c = search lowering-on
-
 pub returns : goal.returns
-returns c = search lowering-done
+returns c =
+    let e : c.all.result ≡ list_all (λ (b : ℕ). nat_eq (lower b) b) c.args.part.now =
+    all_from_yields_List (λ (b : ℕ). nat_eq (lower b) b) _ _ c.all.result c.all.ensures.ran (YieldsList-from_slice c.args.part.now cc) (λ x b q k. search (rules, tests)) in
+    e ∙ lower-all c.args.part.now

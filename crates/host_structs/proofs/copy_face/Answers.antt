@@ -1,6 +1,0 @@
--- `host_structs::copy_face` meets its contract: field by field.
-use mathlib.Core.Path.{refl}
-use Rattle.host_structs.proofs.copy_face.Goals as goal
-
-pub returns : goal.returns
-returns c = refl

@@ -1,6 +1,0 @@
--- `host_structs::mark_face` meets its contract: field by field.
-use mathlib.Core.Path.{refl}
-use Rattle.host_structs.proofs.mark_face.Goals as goal
-
-pub returns : goal.returns
-returns c = refl
