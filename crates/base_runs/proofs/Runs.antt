@@ -1,16 +1,11 @@
--- Runs that end with the list, and bytes that are passed at once.
-use Rattle.std.proofs.Common.{◌≡◌, ℕ, suc, Bool, true, false, ◌+◌, ◌-◌, ◌≤◌, ◌<◌, ◌||◌, List, [], ◌∷◌, ◌++◌, length, get_or, drop, max, sym, refl, arith, length-take, length-drop, ap}
+-- Bytes that are passed at once.
+use Rattle.std.proofs.Common.{◌≡◌, ℕ, suc, Bool, true, false, ◌+◌, ◌-◌, ◌≤◌, ◌<◌, ◌||◌, List, [], ◌∷◌, ◌++◌, length, get_or, drop, sym, refl, arith, length-take, length-drop, ap}
 use Rattle.std.specs.List.{slice_range}
 use Rattle.std.proofs.lemmas.List.Folds.{drop_split}
 use Rattle.base_readers.specs.Readers.{run}
 use Rattle.base_readers.specs.Places.{Reaches}
-use Rattle.base_readers.proofs.Readers.{run_fits}
 use Rattle.base_sequences.proofs.Booleans.{no_true}
-use Rattle.base_readers.proofs.Loops.{run_on, run_out, room_at}
-
--- a walk that came to the end of the list, or began past it, ends at the place after its run
-pub run-past : (c : ℕ → Bool) (s : List ℕ) (at i r : ℕ) → Reaches (run c) s at i → at ≤ i → length s ≤ i → r ≡ max at (length s) → r ≡ at + run c (drop at s)
-run-past c s at i r w h l e = omega (arith, run_out c s at i w l, room_at (run c) (run_fits c) s at)
+use Rattle.base_readers.proofs.Loops.{run_on}
 
 -- one byte more, where none so far may fail
 pub all-on : (c : ℕ → Bool) (s : List ℕ) (j : ℕ) (hit r : Bool) → (hit ≡ false → Reaches (run c) s 0 j) → j < length s → (r ≡ false → c (get_or s j 0) ≡ true)

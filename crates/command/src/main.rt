@@ -17,6 +17,7 @@ ghost use Rattle.command_files.specs.Transfers.{Taken};
 use command_files::Incomplete;
 use command_output_rules::Made;
 use command_rules::{Asked, Ending};
+use std::fs::File;
 
 // Writes the last line, in one call; `list` is our own list. Where that fails there is nothing left to tell it by: the line is missing.
 fn end(rt: &HostRuntime, ending: Ending, list: &[u8]) {
@@ -98,22 +99,29 @@ fn read_input(rt: &HostRuntime, buf: &mut [u8]) -> Result<usize, Ending>
     command_files::read_whole(&mut rt.stdin(), buf).map_err(|_| Ending::InputUnread)
 }
 
-// Reads the list that the second argument names, and returns how many bytes stand at the front of the buffer.
-fn read_list(rt: &HostRuntime, buf: &mut [u8]) -> Result<usize, Ending>
-    ensures { Taken result buf.new }
-{
+// Opens the list that the second argument names. It stays open until the command has ended.
+fn open_list(rt: &HostRuntime) -> Result<File, Ending> {
     let mut path = command_buffers::word();
     let n = command_files::argument(rt, 2, &mut path);
-    let mut file = command_files::open(rt, &path[..n]).ok_or(Ending::ListClosed)?;
-    command_files::read_whole(&mut file, buf).map_err(|_| Ending::ListUnread)
+    command_files::open(rt, &path[..n]).ok_or(Ending::ListClosed)
 }
 
-// Reads the list and the block, and does with them what is asked.
+// Reads the list to its end, and returns how many bytes stand at the front of the buffer.
+fn read_list(list_file: &mut File, buf: &mut [u8]) -> Result<usize, Ending>
+    ensures { Taken result buf.new }
+{
+    command_files::read_whole(list_file, buf).map_err(|_| Ending::ListUnread)
+}
+
+// Reads the list and the block, and does with them what is asked. This, `check`, `judge` and `write` are kept out of `main`, so that a run pays for its own
+// buffers alone: what a function has on the stack is touched as it starts.
+#[inline(never)]
 fn with_block<F: FnOnce(&HostRuntime, &[u8], &[u8])>(rt: &HostRuntime, run: F) -> Result<(), Ending>
     requires { F.IsAlwaysCallable run }
 {
+    let mut list_file = open_list(rt)?;
     let mut list = command_buffers::list();
-    let m = read_list(rt, &mut list)?;
+    let m = read_list(&mut list_file, &mut list)?;
     let mut block = command_buffers::block();
     let n = read_input(rt, &mut block)?;
     run(rt, &block[..n], &list[..m]);
@@ -121,9 +129,11 @@ fn with_block<F: FnOnce(&HostRuntime, &[u8], &[u8])>(rt: &HostRuntime, run: F) -
 }
 
 // Reads the list, and says how it is compared and what is noticed of it. Nothing else is read.
+#[inline(never)]
 fn check(rt: &HostRuntime) -> Result<(), Ending> {
+    let mut list_file = open_list(rt)?;
     let mut list = command_buffers::list();
-    let m = read_list(rt, &mut list)?;
+    let m = read_list(&mut list_file, &mut list)?;
     let mut out = command_buffers::reports();
     let made = command_subcommands::check_list(&list[..m], &mut out);
     let ending = sent(rt, made, &out);
@@ -132,6 +142,7 @@ fn check(rt: &HostRuntime) -> Result<(), Ending> {
 }
 
 // Reads the block, and judges it by the verdicts that the second argument says.
+#[inline(never)]
 fn judge(rt: &HostRuntime) -> Result<(), Ending> {
     let mut word = command_buffers::word();
     let m = command_files::argument(rt, 2, &mut word);
@@ -145,6 +156,7 @@ fn judge(rt: &HostRuntime) -> Result<(), Ending> {
 }
 
 // Reads report lines, and writes their body where there are no more of them than were read.
+#[inline(never)]
 fn write(rt: &HostRuntime) -> Result<(), Ending> {
     let mut lines = command_buffers::lines();
     let n = read_input(rt, &mut lines)?;

@@ -1,7 +1,7 @@
 // Whether a text is one of the lines of our own list.
 #![tactic(auto)]
 
-ghost use Rattle.std.specs.Prelude.{◌≡◌, ◌≤◌, length};
+ghost use Rattle.std.specs.Prelude.{◌≡◌, ◌≤◌, min, length};
 ghost use Rattle.base_sequences.specs.Spans.{span};
 ghost use Rattle.lexis_rules.specs.Bytes.{alike};
 ghost use Rattle.ownlist_rules.specs.Spelled.{among_lines};
@@ -30,6 +30,16 @@ fn is_span(own: &[u8], a: usize, e: usize, text: &[u8]) -> bool
     text_compare::same_text(&own[a..e], text)
 }
 
+// The end of a line, at most the end of the bytes.
+fn end_within(own: &[u8], end: usize) -> usize
+    ensures { result ≡ min end (length own.now) }
+{
+    match own.get(end) {
+        Some(_) => end,
+        None => own.len(),
+    }
+}
+
 // Whether a text equals a line but for ASCII case.
 pub fn is_line(lines: &Lines<'_>, text: &[u8]) -> bool
     ensures { result ≡ among_lines (lines_in lines.now) text.now }
@@ -37,7 +47,7 @@ pub fn is_line(lines: &Lines<'_>, text: &[u8]) -> bool
     let own = lines.own;
     let mut at: usize = 0;
     for &end in lines.ends {
-        let e = end.min(own.len());
+        let e = end_within(own, end);
         if is_span(own, at, e, text) {
             return true;
         }

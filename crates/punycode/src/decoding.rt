@@ -14,12 +14,19 @@ pub(crate) enum NoPoints {
     Long,
 }
 
-// Inserts a code point among the first `count` of an array.
+// Inserts a code point among the first `count` of an array. By hand: of the library's `rotate_right` the compiler makes a call of `memmove`, also where
+// nothing is to be moved, and a loop over `at..count + 1` that carries a value on takes up to half as many instructions again for a label. It is a call of
+// its own, since compiled into the loop over the digits it takes a quarter more.
+#[inline(never)]
 fn insert(out: &mut [u32], count: usize, at: usize, x: u32)
     requires { (at ≤ count) × (count < length out.old) }
     ensures { Inserted out.old count at x out.new }
 {
-    out[at..count + 1].rotate_right(1);
+    let mut j = count;
+    while at < j {
+        out[j] = out[j - 1];
+        j -= 1;
+    }
     out[at] = x;
 }
 

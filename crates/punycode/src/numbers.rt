@@ -151,6 +151,10 @@ fn adapt(delta: u64, points: u64, first: bool) -> u64
     requires { (delta ≤ limit) × (1 ≤ points) }
     ensures { result ≡ adapt delta points first }
 {
-    let d = delta / if first { Numbers::DAMP } else { 2 };
+    let d = if first {
+        delta / Numbers::DAMP
+    } else {
+        delta / 2
+    };
     scaled(d + d / points)
 }

@@ -63,5 +63,8 @@ fn one_case(rt: &(impl Env + Files + Print), block: usize, verdicts: usize) {
 
 // Runs one case after the other.
 fn main(rt: HostRuntime) {
-    arguments::each_case(&rt, 2, |i| one_case(&rt, i, i + 1));
+    for k in 0..arguments::cases(command_files::argument_count(&rt), 2) {
+        let first = 1 + k * 2;
+        one_case(&rt, first, first + 1);
+    }
 }

@@ -48,10 +48,24 @@ fn mark_into(rt: &impl Print, block: &[u8], list: &[u8], out: &mut [u8]) {
     put_marked(rt, r, out);
 }
 
+// Marks into so many lent bytes, each 170, and writes the answer. The buffer is gone when the other one is made.
+fn run_mark(rt: &impl Print, block: &[u8], list: &[u8], room: usize) {
+    let mut out = buffers::untouched();
+    let front = sample_support::front(&out, room);
+    mark_into(rt, block, list, &mut out[..front]);
+}
+
 // Copies into the lent bytes, and writes the answer and what holds of them.
 fn copy_into(rt: &impl Print, block: &[u8], list: &[u8], marks: &[u8], out: &mut [u8]) {
     let r = strip::copy(block, list, marks, out);
     put_copied(rt, r, out);
+}
+
+// Copies into so many lent bytes, each 170, and writes the answer.
+fn run_copy(rt: &impl Print, block: &[u8], list: &[u8], marks: &[u8], room: usize) {
+    let mut out = buffers::untouched();
+    let front = sample_support::front(&out, room);
+    copy_into(rt, block, list, marks, &mut out[..front]);
 }
 
 // One case: the number of each of its five arguments.
@@ -78,17 +92,15 @@ fn one_case(
     };
     let given = &block_bytes[..n];
     let own = &list_bytes[..m];
-    let gone = &marks_bytes[..k];
-    let mut left = buffers::untouched();
-    buffers::lend(&mut left, mark_room, |out| mark_into(rt, given, own, out));
-    let mut kept = buffers::untouched();
-    buffers::lend(&mut kept, copy_room, |out| {
-        copy_into(rt, given, own, gone, out)
-    });
+    run_mark(rt, given, own, mark_room);
+    run_copy(rt, given, own, &marks_bytes[..k], copy_room);
     arguments::put(rt, b"\n");
 }
 
 // Runs one case after the other.
 fn main(rt: HostRuntime) {
-    arguments::each_case(&rt, 5, |i| { one_case(&rt, i, i + 1, i + 2, i + 3, i + 4) });
+    for k in 0..arguments::cases(command_files::argument_count(&rt), 5) {
+        let first = 1 + k * 5;
+        one_case(&rt, first, first + 1, first + 2, first + 3, first + 4);
+    }
 }

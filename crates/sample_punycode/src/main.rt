@@ -90,15 +90,19 @@ fn one_case(rt: &(impl Env + Files + Print), named: usize, lent: usize) {
     };
     let s = &bytes[..n];
     let mut out = [170u8; MOST_LENT];
+    let front = sample_support::front(&out, room);
     if is_label(rt, named) {
-        buffers::lend(&mut out, room, |out| decode_into(rt, s, out));
+        decode_into(rt, s, &mut out[..front]);
     } else {
-        buffers::lend(&mut out, room, |out| spell_into(rt, s, out));
+        spell_into(rt, s, &mut out[..front]);
     }
     arguments::put(rt, b"\n");
 }
 
 // Runs one case after the other.
 fn main(rt: HostRuntime) {
-    arguments::each_case(&rt, 2, |i| one_case(&rt, i, i + 1));
+    for k in 0..arguments::cases(command_files::argument_count(&rt), 2) {
+        let first = 1 + k * 2;
+        one_case(&rt, first, first + 1);
+    }
 }

@@ -1,8 +1,7 @@
 -- The sum from a place on, with the two halves so far, is that of the whole list: one turn and the end, by the definition's one step. The count of the
--- definition is the library's.
-use Rattle.std.proofs.Common.{ℕ, ◌+◌, ◌*◌, ◌%◌, ◌≤◌, ◌<◌, ◌≡◌, Bool, true, false, cond, not, List, nat_eq, refl, sym, ◌∙◌, length, get_or, drop, drop_of_length-le, drop-cons, add-one, arith}
-use Rattle.std.specs.List.{count_by}
-use Rattle.std.proofs.lemmas.List.Recursion.{is_count_by}
+-- bytes so far with that of the rest is the whole count.
+use Rattle.std.proofs.Common.{ℕ, suc, ◌∷◌, ◌+◌, ◌*◌, ◌%◌, ◌≤◌, ◌<◌, ◌≡◌, Bool, true, false, cond, not, List, nat_eq, refl, sym, ◌∙◌, length, get_or, drop, drop_of_length-le, drop-cons, add-one, arith}
+use Rattle.std.specs.Int.{from_bool}
 use Rattle.sample_sums.specs.Sums.{sums, adler, changed}
 
 module _ (s : List ℕ) (low high i : ℕ) (w : sums low high (drop i s) ≡ adler s) where
@@ -14,10 +13,24 @@ module _ (s : List ℕ) (low high i : ℕ) (w : sums low high (drop i s) ≡ adl
   unfolding sums
   sums-end h = rw (drop_of_length-le s h) at w
 
-one_or_none : (t : Bool) (n : ℕ) → cond t 0 1 + n ≡ cond (not t) (1 + n) n
-one_or_none true n = omega arith
-one_or_none false n = omega arith
+-- a byte counts for one or for none
+one_or_none : (t : Bool) → from_bool (not t) ≡ cond t 0 1
+one_or_none true = refl
+one_or_none false = refl
 
-pub changed-counts : (s : List ℕ) (n : ℕ) → n ≡ count_by (λ b. not (nat_eq b 170)) s → n ≡ changed s
-unfolding changed
-changed-counts s n e = e ∙ sym (is_count_by changed (λ b. not (nat_eq b 170)) refl (λ x xs. one_or_none (nat_eq x 170) (changed xs)) s)
+pub one-most : (t : Bool) → from_bool t ≤ 1
+one-most true = omega arith
+one-most false = omega arith
+
+-- the bytes counted so far, and those of the rest
+module _ (s : List ℕ) (count i : ℕ) (w : count + changed (drop i s) ≡ changed s) where
+  pub changed-more : i < length s → (x one : ℕ) → x ≡ get_or s i 0 → one ≡ from_bool (not (nat_eq x 170)) → count + one + changed (drop (i + 1) s) ≡ changed s
+  unfolding changed
+  changed-more h x one e o =
+      let v : count + changed (get_or s i 0 ∷ drop (suc i) s) ≡ changed s = (rw (drop-cons s i 0 h) at w) in
+      let o' : one ≡ cond (nat_eq (get_or s i 0) 170) 0 1 = (rw e at o) ∙ one_or_none (nat_eq (get_or s i 0) 170) in
+      rw add-one (omega (arith, v, o'))
+
+  pub changed-end : length s ≤ i → count ≡ changed s
+  unfolding changed
+  changed-end h = let v : count + 0 ≡ changed s = (rw (drop_of_length-le s h) at w) in omega (arith, v)

@@ -8,7 +8,7 @@ use Rattle.base_readers.proofs.Cases.{case, Says, copies}
 use Rattle.text_decimals_rules.specs.Decimals.{decimal}
 use Rattle.text_decimals_rules.specs.Decimals.{digits as decimal_digits}
 use Rattle.sample_sums.specs.Sums.{sums, changed}
-use Rattle.sample_support.specs.Samples.{number, digits, plain, shown}
+use Rattle.sample_support.specs.Samples.{number, cases, digits, plain, shown}
 use Rattle.sample_support.specs.Lines.{numbered, sums_part, text_part, bytes_part}
 
 -- a byte before "0" counts 0, the others by their distance from it
@@ -28,6 +28,11 @@ values = refl
 text : Says shown (case [] [] ∷ case (bytes "a b%~") (bytes "a%20b%25~") ∷ case (0 ∷ 32 ∷ 33 ∷ 126 ∷ 127 ∷ 175 ∷ 250 ∷ []) (bytes "%00%20!~%7f%af%fa") ∷ [])
 unfolding shown plain within
 text = refl
+
+-- no words, the name of the program alone, one word too few for a case, enough for one and for two, one left over; no case has no argument
+counted : cases 0 2 ∷ cases 1 2 ∷ cases 3 3 ∷ cases 4 3 ∷ cases 11 5 ∷ cases 6 2 ∷ cases 7 0 ∷ [] ≡ 0 ∷ 0 ∷ 0 ∷ 1 ∷ 2 ∷ 2 ∷ 0 ∷ []
+unfolding cases
+counted = refl
 
 -- the parts of a line: of a byte that was written and two that were not, of more than there are, and of none
 named : numbered (bytes " place ") 65540 ∷ numbered [] 0 ∷ [] ≡ bytes " place 65540" ∷ bytes "0" ∷ []

@@ -35,6 +35,12 @@ shown (x ∷ xs) =
       | false ↦ code "%" ∷ hex_digit (x / 16) ∷ hex_digit (x % 16) ∷ shown xs
     ]
 
+-- ==== cases
+
+-- how many cases of k arguments each there are among n words, of which the first is the name of the program
+unfoldable pub cases : ℕ → ℕ → ℕ
+cases n k = cond (eqb k 0) 0 ((n - 1) / k)
+
 -- ==== lent buffers
 
 -- n bytes stand in front of xs. The second part follows from the first; both are stated so that `&s[..n]` needs no proof file.

@@ -3,13 +3,13 @@
 //
 //   read_file(rt, argument, buf)    writes the name of a file and a space, and reads it
 //   room_of(rt, argument, most)     writes a number, and returns it, cut at the most
-//   each_case(rt, size, one_case)   runs the cases of the program, each of so many arguments
+//   cases(count, size)              how many cases there are, each of so many arguments
 //   put(rt, text)                   writes a text
 //
 // What went to standard output no contract can say, and a write that fails is not told: the line is then another one than is expected. Each takes any number of an
 // argument; one that is missing, or longer than 4,096 bytes, is empty. A file whose name is not UTF-8 is not there, as std has it.
-ghost use Rattle.std.specs.Prelude.{ℕ, ◌≤◌, ◌+◌, ◌<◌, ◌^◌, IfSome};
-ghost use Rattle.sample_support.specs.Samples.{Front};
+ghost use Rattle.std.specs.Prelude.{◌≡◌, ◌*◌, ◌-◌, ◌≤◌, IfSome};
+ghost use Rattle.sample_support.specs.Samples.{cases, Front};
 
 use std::io::Read;
 use std::rt::{Env, Files};
@@ -20,20 +20,16 @@ pub fn put(rt: &impl Print, text: &[u8]) {
     let _ = rt.write_all(text);
 }
 
-// Runs the cases of the program, one after the other, each of so many arguments: `one_case` is handed the number of the first of them. What is left over is no case.
-pub fn each_case<F: Fn(usize)>(rt: &impl Env, size: usize, one_case: F)
-    requires { (first : ℕ) → first + size < 2 ^ 64 → F.pre one_case first }
+// How many cases so many words make, the name of the program and its arguments, where each case has `size` arguments. What is left over is no case.
+#[tactic(auto, unfolding(crate::specs::Samples::cases))]
+pub fn cases(count: usize, size: usize) -> usize
+    ensures value { result ≡ cases count size }
+    ensures within { result * size ≤ count - 1 }
 {
-    let n = command_files::argument_count(rt);
     if size == 0 {
-        return;
+        return 0;
     }
-    for first in (1..n).step_by(size) {
-        if n - first < size {
-            return;
-        }
-        one_case(first);
-    }
+    count.saturating_sub(1) / size
 }
 
 // Reads until the buffer is full, the file ends or a read fails.

@@ -2,8 +2,7 @@
 //
 // They are functions of another crate than the programs, because an array that a call returns costs the check of a program nothing, and one of its own costs by
 // its length.
-ghost use Rattle.std.specs.Prelude.{ℕ, ◌≡◌, List, length, take, min, replicate};
-ghost use Rattle.std.specs.Fn.{FnOnceReturnsAtMut};
+ghost use Rattle.std.specs.Prelude.{◌≡◌, length, replicate};
 
 // Room for an argument, or a line: 4,096 zeros.
 pub fn line() -> [u8; 4096]
@@ -27,15 +26,6 @@ pub fn text() -> [u8; 768]
     ensures value_2 { 768 ≡ length result }
 {
     [0u8; 768]
-}
-
-// Lends so many bytes in front to what is to be run, or all where there are fewer.
-pub fn lend<F: FnOnce(&mut [u8])>(bytes: &mut [u8], room: usize, run: F)
-    requires { F.IsAlwaysCallable run }
-    ensures { (left : List ℕ) × FnOnceReturnsAtMut F.FnOnce run (take (min room (length bytes.old)) bytes.old) tt left }
-{
-    let n = super::front(bytes, room);
-    run(&mut bytes[..n]);
 }
 
 // Bytes to lend: 200,000 of 170.

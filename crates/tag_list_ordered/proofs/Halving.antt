@@ -1,4 +1,4 @@
--- A table of names in order: the loop that finds a name by halving, the loop that makes room for a place, and what an inserted place does
+-- A table of names in order: the loop that finds a name by halving, the loop that puts a place in, and what an inserted place does
 -- to the names kept. Names before `lo` are before the name sought and those from `hi` on are after it, so the slot stands between.
 use Prim.Native.Nat.{ℕ, zero, suc, ◌+◌, ◌-◌, ◌/◌, ◌≤◌, ◌<◌, zero-le, suc-le-suc}
 use native.Mathlib.Nat.{eq-or-lt_of_le, add-zero, zero-add, le_of_suc-le-suc, not-suc-le-zero}
@@ -8,8 +8,9 @@ use mathlib.Core.Path.{◌≡◌, refl, sym, ap, ◌∙◌}
 use mathlib.Core.Bool.{Bool, true, false, ◌||◌}
 use mathlib.Core.Logic.{⊎_elim}
 use mathlib.Core.List.{List, [], ◌∷◌, ◌++◌, map, append_assoc}
-use lib.ListN.{length, get_or, set, take, drop, length-append, length-drop, length-map, drop_of_length-le}
-use lib.Seq.{take-append-le, drop_at, take-take, take_at, length-take-le, get_or-take, drop-cons, set_split}
+use lib.ListN.{length, get_or, set, take, drop, length-append, length-drop, length-set, length-map, drop_of_length-le, take-append-drop}
+use lib.Seq.{take-take, take_at, length-take-le, get_or-take, drop-cons, drop-set-lt}
+use Rattle.std.proofs.lemmas.Grind.{take-set_at}
 use Rattle.base_sequences.proofs.Booleans.{and_left, and_right}
 use Rattle.base_sequences.proofs.Lists.{drop-take}
 use Rattle.base_readers.specs.Texts.{same}
@@ -180,18 +181,52 @@ pub search-free : (s t : List ℕ) (count : ℕ) (n : List ℕ) (lo hi : ℕ) �
     → Some lo ≡ slot_for 0 (kept s t count) n
 search-free s t count n lo hi v w h = halved-free s t count n lo hi v.0 w h
 
--- ==== a place that is put in
+-- ==== the loop that puts a place in
 
--- the entries from its place on have moved up by one, and it stands before them
-pub moved-up : (t : List ℕ) (at n p : ℕ) → at ≤ n → n < length t → set (take (at + 1) t ++ take (n - at) (drop at t) ++ drop (n + 1) t) at p ≡ inserted_at at n p t
-moved-up t at n p l h =
-    let a = take (at + 1) t in
-    let b = take (n - at) (drop at t) ++ drop (n + 1) t in
-    let m : length a ≡ at + 1 = length-take-le (at + 1) t (omega arith) in
-    let k : at < length (a ++ b) = omega (arith, length-append a b) in
-    let x : take at (a ++ b) ≡ take at t = take-append-le at a b (omega arith) ∙ take-take at (at + 1) t (omega arith) in
-    let y : drop (suc at) (a ++ b) ≡ b = drop_at a b (suc at) (omega arith) in
-    ap (λ (l : List ℕ). set l at p) (append_assoc a (take (n - at) (drop at t)) (drop (n + 1) t)) ∙ (set_split (a ++ b) at p k ∙ rw (x, y))
+-- a table with the carried entry put in at j, of the first n: past them it is the table itself
+abbrev pub carried_at : ℕ → ℕ → ℕ → List ℕ → List ℕ
+carried_at j n p t = take j t ++ (take (n + 1 - j) (p ∷ drop j t) ++ drop (n + 1) t)
+
+-- putting the carried entry in from here on leaves what putting the place in at the start would have left
+pub record Carrying (t₀ : List ℕ) (n at place : ℕ) (t : List ℕ) (carried j : ℕ) : Type 0 where
+  pub within : j ≤ n + 1
+  pub room : n < length t
+  pub long : length t ≡ length t₀
+  pub same : carried_at j n carried t ≡ inserted_at at n place t₀
+
+pub carrying-start : (t : List ℕ) (n at place : ℕ) → (at ≤ n) × (n < length t) → Carrying t n at place t place at
+carrying-start t n at place h =
+    let e : n + 1 - at ≡ suc (n - at) = omega (arith, h.0) in
+    record { within = omega (arith, h.0); room = h.1; long = refl; same = rw e }
+
+-- the carried entry is put down, and the one that stood there is carried on
+carried-on : (t : List ℕ) (n p j : ℕ) → j < n + 1 → n < length t → carried_at (j + 1) n (get_or t j 0) (set t j p) ≡ carried_at j n p t
+carried-on t n p j l h =
+    let r : j < length t = omega arith in
+    let a : take (j + 1) (set t j p) ≡ take j t ++ (p ∷ []) = take-set_at t j (j + 1) p refl r in
+    let b : drop (j + 1) (set t j p) ≡ drop (j + 1) t = drop-set-lt (j + 1) t j p (omega arith) in
+    let d : drop (n + 1) (set t j p) ≡ drop (n + 1) t = drop-set-lt (n + 1) t j p l in
+    let e : get_or t j 0 ∷ drop (j + 1) t ≡ drop j t = rw add-one (sym (drop-cons t j 0 r)) in
+    let f : n + 1 - (j + 1) ≡ n - j = omega arith in
+    let g : n + 1 - j ≡ suc (n - j) = omega arith in
+    rw (a, b, d, e, f, g) (append_assoc (take j t) (p ∷ []) (take (n - j) (drop j t) ++ drop (n + 1) t))
+
+module _ (t₀ : List ℕ) (n at place : ℕ) (t : List ℕ) (carried j : ℕ) (w : Carrying t₀ n at place t carried j) where
+  pub carrying-on : j < n + 1 → Carrying t₀ n at place (set t j carried) (get_or t j 0) (j + 1)
+  carrying-on l =
+      record {
+        within = omega arith;
+        room = rw (length-set t j carried) w.room;
+        long = length-set t j carried ∙ w.long;
+        same = carried-on t n carried j l w.room ∙ w.same;
+      }
+
+  pub carrying-end : n + 1 ≤ j → t ≡ inserted_at at n place t₀
+  carrying-end l =
+      let e : j ≡ n + 1 = omega (arith, w.within) in
+      let z : n + 1 - (n + 1) ≡ 0 = omega arith in
+      let q : carried_at (n + 1) n carried t ≡ inserted_at at n place t₀ = rw e at w.same in
+      sym (take-append-drop (n + 1) t) ∙ (rw z at q)
 
 -- ==== what a place that is put in does to the names
 

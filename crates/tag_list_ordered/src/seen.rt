@@ -37,6 +37,11 @@ pub(crate) fn insert(table: &mut [u16], count: usize, at: usize, place: u16)
     requires { (at ≤ count) × (count < length table.old) }
     ensures { table.new ≡ inserted_at at count place table.old }
 {
-    table.copy_within(at..count, at + 1);
-    table[at] = place;
+    // A value is carried on from place to place: of the library's `copy_within` the compiler makes a call of `memmove`.
+    let mut carried = place;
+    for j in at..count + 1 {
+        let next = table[j];
+        table[j] = carried;
+        carried = next;
+    }
 }

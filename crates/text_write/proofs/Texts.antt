@@ -1,19 +1,16 @@
--- Texts as they stand and in lower case, as the code writes them: a part that is copied at once, what the loop keeps, one turn, and the end. The
--- premises are literally what a need is handed.
+-- Texts as they stand and in lower case, as the loops of the code write them: what each loop keeps, one turn, and the end. The premises are literally
+-- what a need is handed.
 use Prim.Native.Nat.{ℕ, ◌+◌, ◌-◌, ◌≤◌, ◌<◌, min}
 use native.Mathlib.Omega.{arith}
-use mathlib.Core.Path.{◌≡◌, refl, sym, ◌∙◌}
+use mathlib.Core.Path.{◌≡◌, refl}
 use mathlib.Core.Logic.{◌⊎◌, inl, inr}
 use mathlib.Core.List.{List, map}
-use lib.ListN.{length, get_or, take, drop, set, length-map, get_or-map, take-append-drop}
-use lib.Seq.{sets, sets-eq, drop-drop, length-take-le}
-use borrow.Rule.Slice.PartMut.{put_mid}
+use lib.ListN.{length, get_or, drop, set, length-map, get_or-map}
 use mathlib.Core.Bool.{Bool, true, false}
 use lib.Dec.{leb}
 use borrow.Author.Tests.{leb-true, leb-false}
-use Rattle.std.proofs.Common.{append_assoc}
 use Rattle.base_sequences.specs.Stored.{Put}
-use Rattle.base_sequences.proofs.Splices.{Left, left-put, left_end, left-zero, left-start, left_step}
+use Rattle.base_sequences.proofs.Splices.{Left, left-put, left_end}
 use Rattle.base_readers.specs.Texts.{within}
 use Rattle.lexis_rules.specs.Bytes.{lower}
 
@@ -28,24 +25,7 @@ stored-done text old out to j m l q h = record { count = refl; bytes = left_end 
     go true e = inl (leb-true (length text) j e)
     go false e = inr (omega (arith, leb-false (length text) j e))
 
--- k bytes of a text, copied at once
-copied : (part old ys : List ℕ) (to k n m : ℕ) → k ≡ n → ys ≡ take m part → m ≡ n → n ≤ length part → to + n ≤ length old
-    → Left old to part (put_mid to k old ys) (to + n) (drop n part)
-copied part old ys to k n m e q v h f =
-    let z : length (take n part) ≡ n = length-take-le n part h in
-    let w : sets old to (take n part) ≡ put_mid to k old ys = sets-eq (take n part) old to (omega arith) ∙ rw (z, e, q, v, drop-drop, append_assoc) in
-    left_step {x = take n part} (left-start old to part) (sym (take-append-drop n part)) (record { place = omega arith; bytes = sym w })
-
--- a text, copied as far as there is room
-pub copied-put : (part old ys : List ℕ) (to n m : ℕ) → m ≡ length old - to → n ≡ min (length part) m → 0 < n → ys ≡ take (n - 0) part
-    → Put old to part (put_mid to (to + n - to) old ys) (length part)
-copied-put part old ys to n m e q h f =
-    stored-done part old _ to n m (copied part old ys to (to + n - to) n (n - 0) (omega arith) f (omega arith) (omega arith) (omega arith)) e (omega arith)
-
-pub copied-none : (part old : List ℕ) (to n m : ℕ) → m ≡ length old - to → n ≡ min (length part) m → n ≤ 0 → Put old to part old (length part)
-copied-none part old to n m e q h = stored-done part old old to 0 m (left-zero old to part) e (omega arith)
-
-stored_more : (text old out : List ℕ) (to j n : ℕ) → Left old to text out (to + j) (drop j text) → j < n → n ≤ length text
+pub stored_more : (text old out : List ℕ) (to j n : ℕ) → Left old to text out (to + j) (drop j text) → j < n → n ≤ length text
     → Left old to text (set out (to + j) (get_or text j 0)) (to + (j + 1)) (drop (j + 1) text)
 stored_more text old out to j n l h f = left-put j l (omega arith)
 

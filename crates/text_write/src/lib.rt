@@ -12,13 +12,14 @@ ghost use Rattle.lexis_rules.specs.Bytes.{lower};
 pub mod decimals;
 pub mod phrases;
 
-// Writes a text. The room is measured once, and what there is room for is copied at once.
+// Writes a text. The room is measured once, so that the loop has no other test. A loop, and no `copy_from_slice`: of that the compiler makes a call of
+// `memmove`, which the library for C would need from outside.
 pub fn put_text(part: &[u8], out: &mut [u8], to: usize) -> usize
     ensures { Put out.old to part.now out.new result }
 {
     let n = part.len().min(base_readers::rest(out.len(), to));
-    if 0 < n {
-        out[to..to + n].copy_from_slice(&part[..n]);
+    for j in 0..n {
+        out[to + j] = part[j];
     }
     part.len()
 }

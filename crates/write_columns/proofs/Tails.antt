@@ -21,7 +21,7 @@ use Rattle.write_columns.specs.declared.coded.Test.{Test}
 use Rattle.write_columns.specs.declared.coded.Test.TheVariants.{Text, Token}
 use Rattle.write_columns.specs.declared.coded.Tail as tail
 use Rattle.write_columns.specs.declared.coded.Text as read
-use Rattle.write_columns.specs.Internal.{coded_byte, code_size, text_of, in_test, text_at, tail_reader, tail_at, TailEnds, TailMissing}
+use Rattle.write_columns.specs.Internal.{coded_byte, code_size, text_of, in_test, text_at, tail_reader, tail_end, tail_at, TailEnds, TailMissing}
 use Rattle.write_rules.specs.Entries.{Entry}
 use Rattle.std.specs.Prelude.{Option, Some, None}
 use Rattle.std.proofs.lemmas.Option.{none-some, same_Some}
@@ -94,8 +94,8 @@ module _ {A : Type 0} (g : List ℕ → A) (s : List ℕ) (at e : ℕ) (q : e �
 abbrev itself : List ℕ → List ℕ
 itself x = x
 
-abbrev tail_is : ℕ → Bool → Option tail.Tail
-tail_is e b = Some (record { end = e; bare = b })
+abbrev tail_is : Option ℕ → Bool → tail.Tail
+tail_is e b = record { end = e; bare = b }
 
 module _ (t : Test) (s : List ℕ) (at : ℕ) (x : read.Text) (X : x ≡ text_at t s at) where
   end_is : x.end ≡ at + many code_size 0 (drop at s)
@@ -104,32 +104,32 @@ module _ (t : Test) (s : List ℕ) (at : ℕ) (x : read.Text) (X : x ≡ text_at
   holds-is : x.holds ≡ is_text (text_of (drop at s))
   holds-is = ap (λ (k : read.Text). k.holds) X
 
-  ends_so : (e : ℕ) → got (text_of (drop at s)) e ≡ from (tail_reader itself) s at → tail_is e x.bare ≡ tail_at t s at
-  unfolding tail_at
-  ends_so e q = rw (tail_at, ← q, ap (λ (k : read.Text). k.bare) X)
+  ends_so : (e : ℕ) → got (text_of (drop at s)) e ≡ from (tail_reader itself) s at → tail_is (Some e) x.bare ≡ tail_at t s at
+  unfolding tail_end
+  ends_so e q = rw (tail_end, ← q, ap (λ (k : read.Text). k.bare) X)
 
-  ends_not : nothing ≡ from (tail_reader itself) s at → None ≡ tail_at t s at
-  unfolding tail_at
-  ends_not q = rw (tail_at, ← q)
+  ends_not : nothing ≡ from (tail_reader itself) s at → tail_is None x.bare ≡ tail_at t s at
+  unfolding tail_end
+  ends_not q = rw (tail_end, ← q, ap (λ (k : read.Text). k.bare) X)
 
   module _ (r : Bool) (p : r ≡ eqb (get_or (drop x.end s) 0 0) 10) where
-    pub line-unfed : r ≡ false → None ≡ tail_at t s at
+    pub line-unfed : r ≡ false → record { end = None; bare = x.bare } ≡ tail_at t s at
     line-unfed f = ends_not (tail-unfed itself s at x.end end_is r p f)
 
     module _ (y : r ≡ true) where
       pub line-fits : length s < 2 ^ 64 → machine.Fits w64 (x.end + 1)
       line-fits l = there-fits s x.end 10 r p y refl l
 
-      pub line-untexted : x.holds ≡ false → None ≡ tail_at t s at
+      pub line-untexted : x.holds ≡ false → record { end = None; bare = x.bare } ≡ tail_at t s at
       line-untexted f = ends_not (tail-untexted itself s at x.end end_is r p y x.holds holds-is f)
 
-      pub line-found : x.holds ≡ true → Some (record { end = x.end + 1; bare = x.bare }) ≡ tail_at t s at
+      pub line-found : x.holds ≡ true → record { end = Some (x.end + 1); bare = x.bare } ≡ tail_at t s at
       line-found z = ends_so (x.end + 1) (tail-found itself s at x.end end_is r p y x.holds holds-is z)
 
 -- ==== its answer
 
 -- the text stands and ends there, or it doesn't stand
-module _ (t : Test) (s : List ℕ) (at : ℕ) where
+module _ (s : List ℕ) (at : ℕ) where
   abbrev e : ℕ
   e = at + many code_size 0 (drop at s)
 
@@ -148,28 +148,26 @@ module _ (t : Test) (s : List ℕ) (at : ℕ) where
       fed true p = texted p (is_text (text_of (drop at s))) refl
       fed false p = stops_so (λ g. tail-unfed g s at e refl false (sym p) refl) (tail-unfed itself s at e refl false (sym p) refl)
 
-  pub tail-ends : (l : tail.Tail) → Some l ≡ tail_at t s at → TailEnds s at l.end × (l.bare ≡ whole (run (in_test t)) (text_of (drop at s)))
-  unfolding tail_at
-  tail-ends l h = go way
+  pub tail-ends : (r : ℕ) → Some r ≡ tail_end s at → TailEnds s at r
+  unfolding tail_end
+  tail-ends r h = go way
     where
-      go : Way → TailEnds s at l.end × (l.bare ≡ whole (run (in_test t)) (text_of (drop at s)))
+      go : Way → TailEnds s at r
       go (stands p q) =
-          let w : l ≡ record { end = e + 1; bare = whole (run (in_test t)) (text_of (drop at s)) } =
-          same_Some _ _ (rw (tail_at, ← tail-found itself s at e refl true (sym p) refl true (sym q) refl) at h) in
+          let w : r ≡ e + 1 = same_Some _ _ (rw (tail_end, ← tail-found itself s at e refl true (sym p) refl true (sym q) refl) at h) in
           rw w (
-            record {
-              reads = λ g. tail-found g s at e refl true (sym p) refl true (sym q) refl;
-              after = omega arith;
-              inside = omega (arith, there-at (λ b. eqb b 10) refl s e 0 p);
-            },
-            refl,
+          record {
+            reads = λ g. tail-found g s at e refl true (sym p) refl true (sym q) refl;
+            after = omega arith;
+            inside = omega (arith, there-at (λ b. eqb b 10) refl s e 0 p);
+          }
           )
-      go (stops_so f g) = absurd (none-some l (sym (rw (tail_at, ← g) at h)))
+      go (stops_so f g) = absurd (none-some r (sym (rw (tail_end, ← g) at h)))
 
-  pub tail-missing : None ≡ tail_at t s at → TailMissing s at
-  unfolding tail_at
+  pub tail-missing : None ≡ tail_end s at → TailMissing s at
+  unfolding tail_end
   tail-missing h = go way
     where
       go : Way → TailMissing s at
-      go (stands p q) = absurd (none-some _ (rw (tail_at, ← tail-found itself s at e refl true (sym p) refl true (sym q) refl) at h))
+      go (stands p q) = absurd (none-some _ (rw (tail_end, ← tail-found itself s at e refl true (sym p) refl true (sym q) refl) at h))
       go (stops_so f g) = f

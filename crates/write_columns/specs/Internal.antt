@@ -60,12 +60,12 @@ tail_reader f = do
   when (is_text t)
   give (f t)
 
-unfoldable pub tail_at : Test → List ℕ → ℕ → Option tail.Tail
-tail_at t s at =
-    elim (from (tail_reader (λ (x : List ℕ). x)) s at) [
-      | nothing ↦ None
-      | got x n ↦ Some (record { end = n; bare = whole (run (in_test t)) (text_of (drop at s)) })
-    ]
+-- where a line ends, if it ends there
+unfoldable pub tail_end : List ℕ → ℕ → Option ℕ
+tail_end s at = elim (from (tail_reader (λ (x : List ℕ). x)) s at) [ nothing ↦ None | got x n ↦ Some n ]
+
+abbrev pub tail_at : Test → List ℕ → ℕ → tail.Tail
+tail_at t s at = record { end = tail_end s at; bare = whole (run (in_test t)) (text_of (drop at s)) }
 
 -- where it ends, whatever is made of the text, or that it isn't there
 pub record TailEnds (s : List ℕ) (at r : ℕ) : Type 0 where

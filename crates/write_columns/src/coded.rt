@@ -5,7 +5,7 @@
 //   is_each(s, at, t)        whether every byte of the text at a place is of some
 //   is_bare(s, at, t)        whether the text at a place may be written bare
 //   text_at(s, at, t)        the text at a place: its end, whether a quoted string can hold it, whether it may be written bare
-//   text_line(s, at, t)      the place after the LF behind a text that can stand, and whether it may be written bare; if there is one
+//   text_line(s, at, t)      the place after the LF behind a text that can stand, if there is one; whether the text may be written bare
 //   is_literal(s, at, w)     whether these bytes stand at a place
 ghost use Rattle.std.specs.Prelude.{◌≡◌, drop};
 ghost use Rattle.base_readers.specs.Readers.{run};
@@ -155,27 +155,26 @@ pub fn text_at(s: &[u8], at: usize, t: Test) -> Text
     }
 }
 
-// The end of a line that a text closes.
+// The end of a line that a text closes, if one ends there, and whether the text may be written bare, which is told of any text.
 #[derive(Clone, Copy)]
 pub struct Tail {
-    pub end: usize,
+    pub end: Option<usize>,
     pub bare: bool,
 }
 
 // The place after the LF behind a text that can stand, if there is one, and whether the text may be written bare.
-pub fn text_line(s: &[u8], at: usize, t: Test) -> Option<Tail>
+pub fn text_line(s: &[u8], at: usize, t: Test) -> Tail
     ensures { result ≡ tail_at t s.now at }
 {
     let x = text_at(s, at, t);
+    let bare = x.bare;
     if base_readers::is_at(s, x.end, 0, b'\n') {
         if x.holds {
-            return Some(Tail {
-                end: x.end + 1,
-                bare: x.bare,
-            });
+            let end = Some(x.end + 1);
+            return Tail { end, bare };
         }
     }
-    None
+    Tail { end: None, bare }
 }
 
 // Whether these bytes stand at a place.

@@ -20,7 +20,7 @@ use Rattle.write_rules.specs.Bodies.{bare_or, piece}
 use Rattle.write_columns.specs.declared.coded.Test.TheVariants.{Token, Identifier}
 use Rattle.write_columns.specs.declared.coded.Tail as tail
 use Rattle.write_columns.specs.Internal.{text_of, in_test, spells, tail_reader, tail_at, TailEnds, TailMissing}
-use Rattle.std.specs.Prelude.{Option, Some, None}
+use Rattle.std.specs.Prelude.{Some, None}
 use Rattle.write_lines.specs.Internal.{PiecePut, stood, missing}
 use Rattle.write_lines.proofs.Answers.{piece_is}
 use Rattle.write_columns.proofs.Literals.{solid, literal-from, literal-not, literal-there}
@@ -64,18 +64,20 @@ module _ (s : List ℕ) (at : ℕ) (r : Bool) (p : r ≡ spells (105 ∷ 100 ∷
     pub id-fits : length s < 2 ^ 64 → machine.Fits w64 (at + 3)
     id-fits l = omega (arith, headed-there 105 (100 ∷ 9 ∷ []) s at identified refl r p y (at + 3) refl)
 
-    pub id-untailed : None ≡ tail_at Identifier s (at + 3) → (old : List ℕ) (to : ℕ) → PiecePut id_entry s at old to old None
-    unfolding id_entry tail_reader
-    id-untailed L old to = headed-untailed 105 (100 ∷ 9 ∷ []) s at identified refl r p y (at + 3) refl old to (tail-missing Identifier s (at + 3) L)
+    module _ (l : tail.Tail) (L : l ≡ tail_at Identifier s (at + 3)) where
+      pub id-untailed : None ≡ l.end → (old : List ℕ) (to : ℕ) → PiecePut id_entry s at old to old None
+      unfolding id_entry tail_reader
+      id-untailed E old to =
+          headed-untailed 105 (100 ∷ 9 ∷ []) s at identified refl r p y (at + 3) refl old to (tail-missing s (at + 3) (E ∙ ap (λ (x : tail.Tail). x.end) L))
 
-    pub id-put : (l : tail.Tail) → Some l ≡ tail_at Identifier s (at + 3) → (o₀ : List ℕ) (to : ℕ) → length o₀ < 2 ^ 64 → (o₁ : List ℕ) (n : ℕ) → Clipped o₀ to (32 ∷ []) o₁ n
-        → (o₂ : List ℕ) (m : ℕ) → Clipped o₁ n (bare_or l.bare (text_of (drop (at + 3) s))) o₂ m
-        → PiecePut id_entry s at o₀ to o₂ (Some (record { end = l.end; next = m }))
-    unfolding id_entry tail_reader piece
-    id-put l L o₀ to h o₁ n u o₂ m v =
-        let t = tail-ends Identifier s (at + 3) l L in
-        headed-put 105 (100 ∷ 9 ∷ []) s at identified refl r p y (at + 3) refl l.end t.0 o₀ o₂ to m
-        (rw (← identifier-test (text_of (drop (at + 3) s)), ← t.1) (clipped-then (omega (arith, h)) u v))
+      pub id-put : (e : ℕ) → Some e ≡ l.end → (o₀ : List ℕ) (to : ℕ) → length o₀ < 2 ^ 64 → (o₁ : List ℕ) (n : ℕ) → Clipped o₀ to (32 ∷ []) o₁ n
+          → (o₂ : List ℕ) (m : ℕ) → Clipped o₁ n (bare_or l.bare (text_of (drop (at + 3) s))) o₂ m
+          → PiecePut id_entry s at o₀ to o₂ (Some (record { end = e; next = m }))
+      unfolding id_entry tail_reader piece
+      id-put e E o₀ to h o₁ n u o₂ m v =
+          let b : l.bare ≡ whole (run (in_test Identifier)) (text_of (drop (at + 3) s)) = ap (λ (x : tail.Tail). x.bare) L in
+          headed-put 105 (100 ∷ 9 ∷ []) s at identified refl r p y (at + 3) refl e (tail-ends s (at + 3) e (E ∙ ap (λ (x : tail.Tail). x.end) L)) o₀ o₂ to m
+          (rw (← identifier-test (text_of (drop (at + 3) s)), ← b) (clipped-then (omega (arith, h)) u v))
 
 -- `r`
 module _ (s : List ℕ) (at : ℕ) (r : Bool) (p : r ≡ spells (114 ∷ 9 ∷ []) (drop at s)) where
@@ -87,18 +89,20 @@ module _ (s : List ℕ) (at : ℕ) (r : Bool) (p : r ≡ spells (114 ∷ 9 ∷ [
     pub reason-fits : length s < 2 ^ 64 → machine.Fits w64 (at + 2)
     reason-fits l = omega (arith, headed-there 114 (9 ∷ []) s at reasoned refl r p y (at + 2) refl)
 
-    pub reason-untailed : None ≡ tail_at Token s (at + 2) → (old : List ℕ) (to : ℕ) → PiecePut reason_entry s at old to old None
-    unfolding reason_entry tail_reader
-    reason-untailed L old to = headed-untailed 114 (9 ∷ []) s at reasoned refl r p y (at + 2) refl old to (tail-missing Token s (at + 2) L)
+    module _ (l : tail.Tail) (L : l ≡ tail_at Token s (at + 2)) where
+      pub reason-untailed : None ≡ l.end → (old : List ℕ) (to : ℕ) → PiecePut reason_entry s at old to old None
+      unfolding reason_entry tail_reader
+      reason-untailed E old to =
+          headed-untailed 114 (9 ∷ []) s at reasoned refl r p y (at + 2) refl old to (tail-missing s (at + 2) (E ∙ ap (λ (x : tail.Tail). x.end) L))
 
-    pub reason-put : (l : tail.Tail) → Some l ≡ tail_at Token s (at + 2) → (o₀ : List ℕ) (to : ℕ) → length o₀ < 2 ^ 64 → (o₁ : List ℕ) (n : ℕ) → Clipped o₀ to (bytes " reason=") o₁ n
-        → (o₂ : List ℕ) (m : ℕ) → Clipped o₁ n (bare_or l.bare (text_of (drop (at + 2) s))) o₂ m
-        → PiecePut reason_entry s at o₀ to o₂ (Some (record { end = l.end; next = m }))
-    unfolding reason_entry tail_reader piece
-    reason-put l L o₀ to h o₁ n u o₂ m v =
-        let t = tail-ends Token s (at + 2) l L in
-        headed-put 114 (9 ∷ []) s at reasoned refl r p y (at + 2) refl l.end t.0 o₀ o₂ to m
-        (rw (← token-test (text_of (drop (at + 2) s)), ← t.1) (clipped-then (omega (arith, h)) u v))
+      pub reason-put : (e : ℕ) → Some e ≡ l.end → (o₀ : List ℕ) (to : ℕ) → length o₀ < 2 ^ 64 → (o₁ : List ℕ) (n : ℕ) → Clipped o₀ to (bytes " reason=") o₁ n
+          → (o₂ : List ℕ) (m : ℕ) → Clipped o₁ n (bare_or l.bare (text_of (drop (at + 2) s))) o₂ m
+          → PiecePut reason_entry s at o₀ to o₂ (Some (record { end = e; next = m }))
+      unfolding reason_entry tail_reader piece
+      reason-put e E o₀ to h o₁ n u o₂ m v =
+          let b : l.bare ≡ whole (run (in_test Token)) (text_of (drop (at + 2) s)) = ap (λ (x : tail.Tail). x.bare) L in
+          headed-put 114 (9 ∷ []) s at reasoned refl r p y (at + 2) refl e (tail-ends s (at + 2) e (E ∙ ap (λ (x : tail.Tail). x.end) L)) o₀ o₂ to m
+          (rw (← token-test (text_of (drop (at + 2) s)), ← b) (clipped-then (omega (arith, h)) u v))
 
 -- `none`
 module _ (s : List ℕ) (at : ℕ) (r : Bool) (p : r ≡ spells (bytes "none\n") (drop at s)) where

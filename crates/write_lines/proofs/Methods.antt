@@ -18,9 +18,8 @@ use Rattle.base_sequences.specs.Spans.{span}
 use Rattle.write_rules.specs.Entries.{Entry, judged, literal, method_entry}
 use Rattle.write_rules.specs.Bodies.{piece}
 use Rattle.write_columns.specs.Internal.{spells, column_reader, column_size, ColumnEnd, column, unclosed}
-use Rattle.std.specs.Prelude.{Option, Some, None}
+use Rattle.std.specs.Prelude.{Some, None}
 use Rattle.write_lines.specs.Internal.{PiecePut, stood, missing}
-use Rattle.write_lines.proofs.Answers.{piece_is}
 use Rattle.write_columns.proofs.Literals.{literal-from, literal-not, literal-there}
 use Rattle.write_columns.proofs.Keywords.{column-ends}
 

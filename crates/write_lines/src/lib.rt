@@ -39,13 +39,11 @@ fn put_id(s: &[u8], at: usize, out: &mut [u8], to: usize) -> Option<Piece>
         return None;
     }
     let a = at + 3;
-    let l = write_columns::coded::text_line(s, a, Test::Identifier)?;
+    let l = write_columns::coded::text_line(s, a, Test::Identifier);
+    let end = l.end?;
     let n = text_write::put_byte(b' ', out, to);
     let m = write_texts::put_value(s, a, l.bare, out, n);
-    Some(Piece {
-        end: l.end,
-        next: m,
-    })
+    Some(Piece { end, next: m })
 }
 
 // The line `none`.
@@ -101,13 +99,11 @@ fn put_reason(s: &[u8], at: usize, out: &mut [u8], to: usize) -> Option<Piece>
         return None;
     }
     let b = at + 2;
-    let l = write_columns::coded::text_line(s, b, Test::Token)?;
+    let l = write_columns::coded::text_line(s, b, Test::Token);
+    let end = l.end?;
     let n = text_write::put_part(b" reason=", out, to);
     let m = write_texts::put_value(s, b, l.bare, out, n);
-    Some(Piece {
-        end: l.end,
-        next: m,
-    })
+    Some(Piece { end, next: m })
 }
 
 // Stores what a property adds to a body, from its columns.

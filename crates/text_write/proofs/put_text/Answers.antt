@@ -1,10 +1,9 @@
--- `text_write::put_text` meets its contract: as many bytes as there is room for are copied at once, and where there is room for none nothing is.
-use Rattle.std.proofs.Common.{rules}
-use Rattle.text_write.proofs.Texts.{copied-put, copied-none}
+use native.Mathlib.Omega.{arith}
+use Rattle.text_write.proofs.Texts.{stored_more, stored-done}
 use Rattle.text_write.proofs.put_text.Goals as goal
 
-pub returns-then-n-gt0 : goal.returns-then-n-gt0
-returns-then-n-gt0 c = copied-put _ _ _ _ _ _ c.rest.ensures c.min-n.ensures c.if-n-gt0.true (search rules)
+pub loop-j-preserved : goal.loop-j-preserved
+loop-j-preserved c = stored_more _ _ _ _ _ c.min-n.result c.loop-j.invariant c.loop-j-test.true (omega arith)
 
-pub returns-else-n-gt0 : goal.returns-else-n-gt0
-returns-else-n-gt0 c = search copied-none
+pub returns : goal.returns
+returns c = stored-done _ _ _ _ _ _ c.loop-j.invariant c.rest.ensures (omega arith)

@@ -1,6 +1,6 @@
 -- `write_lines::put_reason` meets its contract: each way out has its law in `Lines`.
 use Rattle.write_lines.proofs.Lines.{reason-unlike, reason-fits, reason-untailed, reason-put}
-use Rattle.std.proofs.Common.{rules, ◌≡◌, None}
+use Rattle.std.proofs.Common.{rules, ◌≡◌, None, sym}
 use Rattle.write_lines.proofs.put_reason.Goals as goal
 
 pub returns-then-not-is_literal : goal.returns-then-not-is_literal
@@ -9,10 +9,15 @@ returns-then-not-is_literal c = search reason-unlike
 pub overflow_add-b : goal.overflow_add-b
 overflow_add-b c = search reason-fits
 
-pub returns-in_err-l : goal.returns-in_err-l
-returns-in_err-l c =
+pub returns-in_err-end : goal.returns-in_err-end
+returns-in_err-end c =
     let q : c.from_residual.result ≡ None = search rules in
-    rw q (reason-untailed c.args.s.now c.args.at _ c.is_literal.ensures c.if-not-is_literal.false c.in_err-l.ensures _ _)
+    rw q (
+    reason-untailed c.args.s.now c.args.at _ c.is_literal.ensures c.if-not-is_literal.false _ c.text_line-l.ensures
+    (sym c.in_err-end.was) _ _
+    )
 
 pub returns : goal.returns
-returns c = reason-put _ _ _ c.is_literal.ensures c.if-not-is_literal.false _ c.in_ok-l.ensures _ _ (search rules) _ _ c.put_part-n.ensures c.put_value-m.new.out c.put_value-m.result c.put_value-m.ensures
+returns c =
+    reason-put _ _ _ c.is_literal.ensures c.if-not-is_literal.false _ c.text_line-l.ensures _ (sym c.in_ok-end.was) _ _ (search rules) _ _ c.put_part-n.ensures
+    c.put_value-m.new.out c.put_value-m.result c.put_value-m.ensures

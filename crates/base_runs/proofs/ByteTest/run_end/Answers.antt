@@ -1,5 +1,4 @@
-use Rattle.base_readers.proofs.Loops.{run_on, run-off}
-use Rattle.base_runs.proofs.Runs.{run-past}
+use Rattle.base_readers.proofs.Loops.{run_on, run-off, run_out}
 use Rattle.base_runs.proofs.ByteTest.run_end.Goals as goal
 
 pub returns-then-not-passes : goal.returns-then-not-passes
@@ -9,4 +8,4 @@ pub loop-i-preserved : goal.loop-i-preserved
 loop-i-preserved g c = run_on _ _ _ _ _ c.loop-i.invariant c.loop-i-test.true c.passes.ensures c.if-not-passes.false
 
 pub returns : goal.returns
-returns g c = run-past _ _ _ _ _ c.loop-i.invariant c.loop-i.auto.i c.loop-i-test.false c.max.ensures
+returns g c = run_out _ _ _ _ c.loop-i.invariant c.loop-i-test.false

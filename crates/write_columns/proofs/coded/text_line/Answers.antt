@@ -2,8 +2,8 @@
 use Rattle.write_columns.proofs.Tails.{line-unfed, line-fits, line-untexted, line-found}
 use Rattle.write_columns.proofs.coded.text_line.Goals as goal
 
-pub overflow_add-result : goal.overflow_add-result
-overflow_add-result c = search line-fits
+pub overflow_add-end : goal.overflow_add-end
+overflow_add-end c = search line-fits
 
 pub returns-then-x : goal.returns-then-x
 returns-then-x c = search line-found
