@@ -51,6 +51,13 @@ fn strip_into(rt: &impl Print, block: &[u8], list: &[u8], out: &mut [u8]) {
     put_answer(rt, r, out);
 }
 
+// Strips into so many lent bytes, each 170, and writes the answer.
+fn run(rt: &impl Print, block: &[u8], list: &[u8], room: usize) {
+    let mut out = buffers::untouched();
+    let front = sample_support::front(&out, room);
+    strip_into(rt, block, list, &mut out[..front]);
+}
+
 // One case: the number of each of its three arguments.
 fn one_case(rt: &(impl Env + Files + Print), block: usize, list: usize, lent: usize) {
     let mut block_bytes = [0u8; MOST];
@@ -62,11 +69,7 @@ fn one_case(rt: &(impl Env + Files + Print), block: usize, list: usize, lent: us
         arguments::put(rt, b": no file\n");
         return;
     };
-    let given = &block_bytes[..n];
-    let own = &list_bytes[..m];
-    let mut out = buffers::untouched();
-    let front = sample_support::front(&out, room);
-    strip_into(rt, given, own, &mut out[..front]);
+    run(rt, &block_bytes[..n], &list_bytes[..m], room);
     arguments::put(rt, b"\n");
 }
 
